@@ -1,0 +1,4 @@
+mod bits;
+pub mod job;
+pub mod members;
+pub mod set;
