@@ -1,0 +1,5 @@
+pub mod Cascade
+pub mod Losses
+pub mod Calls
+pub mod Same
+pub mod Values

@@ -1,0 +1,6 @@
+// What a job does to a parameter.
+#[derive(Clone, Copy, PartialEq, Eq, Debug)]
+pub enum Access {
+    Read,
+    Write,
+}
