@@ -13,6 +13,7 @@ pub struct Members {
 }
 
 impl Members {
+    // All members of that set are still to come.
     pub fn new(left: JobSet) -> Members
         ensures { λ r. ⌜ r .left ≡ left ⌝ }
     {

@@ -1,14 +1,15 @@
 ghost use mathlib.Core.Path.{_≡_};
 ghost use mathlib.Core.Bool.{true};
 ghost use Prim.Native.Nat.{ℕ, _*_, _<_, _≤_};
-ghost use lib.ListN.{length};
+ghost use mathlib.Core.List.{_++_};
+ghost use lib.ListN.{length, drop, set};
 ghost use Rattle.std.specs.declared.option.Option.the-variants.{Some, None};
 ghost use Rattle.std.specs.Results.{Cases};
 ghost use Rattle.jobs.specs.Sets.{lowest};
 ghost use Rattle.jobs.specs.Jobs.{member, numberIn};
 ghost use Rattle.rules.specs.Manager.{fresh, valueAt, lastOr};
 ghost use Rattle.rules.specs.Calls.{Obeys, readOf, writeOf, voteOf, commitOf, rollBackOf, settledOf};
-ghost use Rattle.managers.specs.Memory.{canSetUp, Settles};
+ghost use Rattle.managers.specs.Memory.{place, canSetUp, Settles};
 ghost use Rattle.managers.specs.Locking.{lockAt, noLock, isWriter, holds, rivals, Unused, accessFault, pendingIn, pendingFault, ReaderNoted, WriterNoted, VoteNoted, LeftOf, JobLeft, meaningOf, admitsNone};
 
 pub mod calls;
@@ -187,6 +188,7 @@ impl Locks {
         requires { ⌜ canSetUp (length (now starting)) (length (now values)) ≡ true ⌝ }
         ensures fresh { λ r. ⌜ meaningOf r (now (values .exit)) ≡ fresh (now (starting .entry)) ⌝ }
         ensures count { λ r. ⌜ r .count ≡ length (now (starting .entry)) ⌝ }
+        ensures memory { λ r. ⌜ now (values .exit) ≡ now (starting .entry) ++ drop (length (now (starting .entry))) (now (values .entry)) ⌝ }
     {
         let count = starting.len();
         values[0..count].copy_from_slice(starting);
@@ -237,6 +239,7 @@ impl Locks {
         requires { ⌜ 32 * now self .count ≤ length (now values) ⌝ }
         ensures follows_the_rules { λ r. ⌜ Obeys (writeOf admitsNone (meaningOf (now (self .entry)) (now (values .entry))) job parameter value) r (meaningOf (now (self .exit)) (now (values .exit))) ⌝ }
         ensures refusal_changes_nothing { λ r. ⌜ Cases r (λ _. Unit {0}) (λ _. (now (self .exit) ≡ now (self .entry)) × (now (values .exit) ≡ now (values .entry))) ⌝ }
+        ensures memory { λ r. ⌜ Cases r (λ _. now (values .exit) ≡ set (now (values .entry)) (place (now (self .entry) .count) parameter job) value) (λ _. now (values .exit) ≡ now (values .entry)) ⌝ }
         ensures count_stays { λ _. ⌜ now (self .exit) .count ≡ now (self .entry) .count ⌝ }
     {
         let job = self.admit(job, parameter, Access::Write)?;
@@ -276,6 +279,7 @@ impl Locks {
         requires { ⌜ 32 * now self .count ≤ length (now values) ⌝ }
         ensures follows_the_rules { λ r. ⌜ Obeys (commitOf (meaningOf (now (self .entry)) (now (values .entry))) job) r (meaningOf (now (self .exit)) (now (values .exit))) ⌝ }
         ensures refusal_changes_nothing { λ r. ⌜ Cases r (λ _. Unit {0}) (λ _. (now (self .exit) ≡ now (self .entry)) × (now (values .exit) ≡ now (values .entry))) ⌝ }
+        ensures memory { λ r. ⌜ Cases r (λ _. Settles (λ p. isWriter (lockAt (now (self .entry) .locks) p) job) (now (self .entry) .count) job (now (values .entry)) (now (values .exit))) (λ _. now (values .exit) ≡ now (values .entry)) ⌝ }
         ensures count_stays { λ _. ⌜ now (self .exit) .count ≡ now (self .entry) .count ⌝ }
     {
         let job = self.pending_job(job)?;

@@ -2,13 +2,14 @@
 // too small for the tables is refused before all else, so nothing is asked of the caller.
 
 ghost use mathlib.Core.Path.{_≡_};
-ghost use lib.ListN.{length};
+ghost use mathlib.Core.List.{_++_};
+ghost use lib.ListN.{length, drop, set};
 ghost use Rattle.std.specs.Results.{Cases, isOk};
 ghost use Rattle.std.specs.Vec.{made};
 ghost use Rattle.rules.specs.Manager.{fresh};
 ghost use Rattle.rules.specs.Calls.{Obeys, readOf, writeOf, voteOf, commitOf, rollBackOf};
-ghost use Rattle.managers.specs.Memory.{canSetUp};
-ghost use Rattle.managers.specs.Locking.{meaningOf, withRoom, settledIn, admitsNone};
+ghost use Rattle.managers.specs.Memory.{place, canSetUp, Settles};
+ghost use Rattle.managers.specs.Locking.{lockAt, isWriter, meaningOf, withRoom, settledIn, admitsNone};
 use crate::locking::Locks;
 use crate::memory::can_set_up;
 use crate::memory::room_for;
@@ -20,6 +21,8 @@ use rules::fault::ManagerFault;
 pub fn set_up_in<V: Copy>(values: &mut [V], starting: &[V]) -> Result<Locks, ManagerFault>
     ensures accepted { λ r. ⌜ isOk r ≡ canSetUp (length (now (starting .entry))) (length (now (values .entry))) ⌝ }
     ensures fresh { λ r. ⌜ made r (λ t. meaningOf t (now (values .exit)) ≡ fresh (now (starting .entry))) ⌝ }
+    ensures count { λ r. ⌜ made r (λ t. t .count ≡ length (now (starting .entry))) ⌝ }
+    ensures memory { λ r. ⌜ made r (λ _. now (values .exit) ≡ now (starting .entry) ++ drop (length (now (starting .entry))) (now (values .entry))) ⌝ }
     ensures refusal_changes_nothing { λ r. ⌜ Cases r (λ _. Unit {0}) (λ f. (f ≡ ManagerFault.NoRoom) × (now (values .exit) ≡ now (values .entry))) ⌝ }
 {
     if !can_set_up(starting.len(), values.len()) {
@@ -54,6 +57,7 @@ pub fn read_in<V: Copy>(
 ) -> Result<V, ManagerFault>
     ensures follows_the_rules { λ r. ⌜ Obeys (withRoom (now (locks .entry)) (now (values .entry)) (readOf admitsNone (meaningOf (now (locks .entry)) (now (values .entry))) job parameter)) r (meaningOf (now (locks .exit)) (now (values .entry))) ⌝ }
     ensures refusal_changes_nothing { λ r. ⌜ Cases r (λ _. Unit {0}) (λ _. now (locks .exit) ≡ now (locks .entry)) ⌝ }
+    ensures count_stays { λ _. ⌜ now (locks .exit) .count ≡ now (locks .entry) .count ⌝ }
 {
     if !room_for(locks.count, values.len()) {
         return Err(ManagerFault::NoRoom);
@@ -71,6 +75,8 @@ pub fn write_in<V: Copy>(
 ) -> Result<(), ManagerFault>
     ensures follows_the_rules { λ r. ⌜ Obeys (withRoom (now (locks .entry)) (now (values .entry)) (writeOf admitsNone (meaningOf (now (locks .entry)) (now (values .entry))) job parameter value)) r (meaningOf (now (locks .exit)) (now (values .exit))) ⌝ }
     ensures refusal_changes_nothing { λ r. ⌜ Cases r (λ _. Unit {0}) (λ _. (now (locks .exit) ≡ now (locks .entry)) × (now (values .exit) ≡ now (values .entry))) ⌝ }
+    ensures memory { λ r. ⌜ Cases r (λ _. now (values .exit) ≡ set (now (values .entry)) (place (now (locks .entry) .count) parameter job) value) (λ _. now (values .exit) ≡ now (values .entry)) ⌝ }
+    ensures count_stays { λ _. ⌜ now (locks .exit) .count ≡ now (locks .entry) .count ⌝ }
 {
     if !room_for(locks.count, values.len()) {
         return Err(ManagerFault::NoRoom);
@@ -82,6 +88,7 @@ pub fn write_in<V: Copy>(
 pub fn vote_in<V: Copy>(locks: &mut Locks, values: &[V], job: u8) -> Result<(), ManagerFault>
     ensures follows_the_rules { λ r. ⌜ Obeys (withRoom (now (locks .entry)) (now (values .entry)) (voteOf (meaningOf (now (locks .entry)) (now (values .entry))) job)) r (meaningOf (now (locks .exit)) (now (values .entry))) ⌝ }
     ensures refusal_changes_nothing { λ r. ⌜ Cases r (λ _. Unit {0}) (λ _. now (locks .exit) ≡ now (locks .entry)) ⌝ }
+    ensures count_stays { λ _. ⌜ now (locks .exit) .count ≡ now (locks .entry) .count ⌝ }
 {
     if !room_for(locks.count, values.len()) {
         return Err(ManagerFault::NoRoom);
@@ -97,6 +104,8 @@ pub fn commit_in<V: Copy>(
 ) -> Result<JobSet, ManagerFault>
     ensures follows_the_rules { λ r. ⌜ Obeys (withRoom (now (locks .entry)) (now (values .entry)) (commitOf (meaningOf (now (locks .entry)) (now (values .entry))) job)) r (meaningOf (now (locks .exit)) (now (values .exit))) ⌝ }
     ensures refusal_changes_nothing { λ r. ⌜ Cases r (λ _. Unit {0}) (λ _. (now (locks .exit) ≡ now (locks .entry)) × (now (values .exit) ≡ now (values .entry))) ⌝ }
+    ensures memory { λ r. ⌜ Cases r (λ _. Settles (λ p. isWriter (lockAt (now (locks .entry) .locks) p) job) (now (locks .entry) .count) job (now (values .entry)) (now (values .exit))) (λ _. now (values .exit) ≡ now (values .entry)) ⌝ }
+    ensures count_stays { λ _. ⌜ now (locks .exit) .count ≡ now (locks .entry) .count ⌝ }
 {
     if !room_for(locks.count, values.len()) {
         return Err(ManagerFault::NoRoom);
@@ -112,6 +121,7 @@ pub fn roll_back_in<V: Copy>(
 ) -> Result<JobSet, ManagerFault>
     ensures follows_the_rules { λ r. ⌜ Obeys (withRoom (now (locks .entry)) (now (values .entry)) (rollBackOf (meaningOf (now (locks .entry)) (now (values .entry))) job)) r (meaningOf (now (locks .exit)) (now (values .entry))) ⌝ }
     ensures refusal_changes_nothing { λ r. ⌜ Cases r (λ _. Unit {0}) (λ _. now (locks .exit) ≡ now (locks .entry)) ⌝ }
+    ensures count_stays { λ _. ⌜ now (locks .exit) .count ≡ now (locks .entry) .count ⌝ }
 {
     if !room_for(locks.count, values.len()) {
         return Err(ManagerFault::NoRoom);

@@ -15,6 +15,7 @@ returns-in-Break-job g c = record {
   follows-the-rules =
       exits _ _ (c .from-residual .ensures .1) (pending-fault (c .args .self .now) (c .args .values .now) (c .pre) _ _ _ (c .in-Break-job .ensures tt));
   refusal-changes-nothing = cases-from-err _ _ _ (c .from-residual .ensures .0) (λ _. (refl, refl));
+  memory = cases-from-err _ _ _ (c .from-residual .ensures .0) (λ _. refl);
   count-stays = refl;
 }
 
@@ -26,6 +27,7 @@ returns-then-not-contains g c =
     record {
       follows-the-rules = commit-refused (c .args .self .now) (c .args .values .now) (c .pre) _ (ok .1) unvoted;
       refusal-changes-nothing = (refl, refl);
+      memory = refl;
       count-stays = refl;
     }
 
@@ -40,5 +42,6 @@ returns g c =
     record {
       follows-the-rules = commit-obeys t (c .leave .last .self) (c .args .values .now) (c .pre) _ _ _ (ok .1) voted settled left (c .empty .ensures .value);
       refusal-changes-nothing = tt;
+      memory = settled;
       count-stays = c .leave .ensures .count;
     }
