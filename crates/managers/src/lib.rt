@@ -1,3 +1,5 @@
+#![tactic(auto)]
+
 pub mod interface;
 pub mod locking;
 pub mod memory;

@@ -1,3 +1,5 @@
+#![tactic(auto)]
+
 ghost use Rattle.std.specs.Prelude.{◌≡◌, ℕ, ◌*◌, ◌≤◌, vec_len};
 ghost use Rattle.jobs.specs.Jobs.{member};
 ghost use Rattle.open_manager.specs.Records.{holds_any};

@@ -1,3 +1,5 @@
+#![tactic(auto)]
+
 pub mod access;
 pub mod fault;
 pub mod theorems;

@@ -1,3 +1,5 @@
+#![tactic(auto)]
+
 use anyhow::anyhow;
 use jobs::set::JobSet;
 use managers::interface::ResourceManager;

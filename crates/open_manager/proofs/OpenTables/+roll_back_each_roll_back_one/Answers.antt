@@ -65,8 +65,8 @@ roll-back-each-loop-job-preserved t c =
 
 pub roll-back-each-returns : goal.roll-back-each-returns
 roll-back-each-returns t c =
-    let all : c.into-iter-job-iterator.result.left ≡ c.args.jobs =
-    ap (λ (m : Members). m.left) c.into-iter-job-iterator.ensures.into-iter-gives ∙ c.members-job-items.ensures in
+    let all : c.into_iter-job-iterator.result.left ≡ c.args.jobs =
+    ap (λ (m : Members). m.left) c.into_iter-job-iterator.ensures.into_iter_gives ∙ c.members-job-items.ensures in
     let inv = c.loop-job.invariant in
     record {
       left = inv.leaving;

@@ -23,8 +23,8 @@ loop-job-preserved c =
 
 pub returns : goal.returns
 returns c =
-    let left : c.into-iter-job-iterator.result.left ≡ c.args.from =
-    ap (λ (m : Members). m.left) c.into-iter-job-iterator.ensures.into-iter-gives ∙ c.members-job-items.ensures in
+    let left : c.into_iter-job-iterator.result.left ≡ c.args.from =
+    ap (λ (m : Members). m.left) c.into_iter-job-iterator.ensures.into_iter_gives ∙ c.members-job-items.ensures in
     let rows : (i : ℕ) → get_or c.loop-job.rows i no_jobs ≡ cond (member c.args.from i) (more (get_or c.args.rows i no_jobs) c.args.to.number) (get_or c.args.rows i no_jobs) = λ i.
     adding_all c.args.rows _ c.args.to.number c.loop-job.rows _ (next_none _ c.in-None.ensures.steps.0) c.loop-job.invariant.1 i
     ∙ ap (λ (s : JobSet). cond (member s i) (more (get_or c.args.rows i no_jobs) c.args.to.number) (get_or c.args.rows i no_jobs)) left in

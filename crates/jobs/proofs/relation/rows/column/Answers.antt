@@ -10,8 +10,8 @@ use Rattle.jobs.proofs.relation.rows.column.Goals as goal
 
 pub loop-from-init : goal.loop-from-init
 loop-from-init c =
-    let start : c.into-iter-from-iterator.result.left ≡ c.all.result =
-    ap (λ (m : Members). m.left) c.into-iter-from-iterator.ensures.into-iter-gives ∙ c.members-from-items.ensures in (
+    let start : c.into_iter-from-iterator.result.left ≡ c.all.result =
+    ap (λ (m : Members). m.left) c.into_iter-from-iterator.ensures.into_iter_gives ∙ c.members-from-items.ensures in (
       let none : c.empty-found.result.bits ≡ 0 = ap (λ (s : JobSet). s.bits) c.empty-found.ensures.value in omega arith,
       finding_none c.args.rows c.args.job.number _ _ c.empty-found.ensures.members
           (λ i. ap (λ (s : JobSet). member s i) start ∙ c.all.ensures.members i),
