@@ -14,57 +14,57 @@ use Rattle.open_manager.proofs.RollingBack.{rolled_none, rolled_one}
 use Rattle.open_manager.proofs.Rolling.{rolling_none, rolling_more, rolling_all}
 use Rattle.open_manager.proofs.OpenTables.+roll_back_each_roll_back_one.Goals as goal
 
-pub roll-back-one-returns-then-not-is-pending : goal.roll-back-one-returns-then-not-is-pending
-roll-back-one-returns-then-not-is-pending t c =
+pub roll_back_one-returns-then-not-is_pending : goal.roll_back_one-returns-then-not-is_pending
+roll_back_one-returns-then-not-is_pending t c =
     let a : OpenTables = c.args.self.now in
     let none = c.empty.ensures.members in
-    let away = c.if-not-is-pending.ensures in
+    let away = c.if-not-is_pending.ensures in
     record {
       left = left_none a _ none;
       gone = rolled_none (reads_from a.order) (is_pending a.order) _ _
           (λ k h p. let e = eqb-true k c.args.job.number h in let z : ◌≡◌ {A = ℕ} 0 1 = grind (arith, nat_tests) in omega arith) none;
     }
 
-pub roll-back-one-roll-back-each-requires : goal.roll-back-one-roll-back-each-requires
-roll-back-one-roll-back-each-requires t c =
+pub roll_back_one-roll_back_each-requires : goal.roll_back_one-roll_back_each-requires
+roll_back_one-roll_back_each-requires t c =
     let less = left_less c.args.self.now c.leave.new.self c.args.job.number c.args.job.low
-    (sym c.if-not-is-pending.ensures) c.leave.ensures in
+    (sym c.if-not-is_pending.ensures) c.leave.ensures in
     let f : 2 * how_many (is_pending c.leave.new.self.order) 16 + 1 < t = omega arith in
     (f, tt)
 
-pub roll-back-one-returns : goal.roll-back-one-returns
-roll-back-one-returns t c =
+pub roll_back_one-returns : goal.roll_back_one-returns
+roll_back_one-returns t c =
     let a : OpenTables = c.args.self.now in
     let b : OpenTables = c.leave.new.self in
     let j : ℕ = c.args.job.number in
     let left = c.leave.ensures in
     let added = c.insert.ensures.members in
     record {
-      left = left_twice a b c.roll-back-each.new.self (λ k. eqb k j) _ _ (λ k. let x = added k in grind (arith, nat_tests)) left c.roll-back-each.ensures.left;
+      left = left_twice a b c.roll_back_each.new.self (λ k. eqb k j) _ _ (λ k. let x = added k in grind (arith, nat_tests)) left c.roll_back_each.ensures.left;
       gone = rolled_one (reads_from a.order) (is_pending a.order) j (reads_from b.order) (is_pending b.order) left.reads_from left.pending
-          _ _ _ c.args.job.low a.order.readers c.readers-of-readers.ensures added c.roll-back-each.ensures.gone;
+          _ _ _ c.args.job.low a.order.readers c.readers_of-readers.ensures added c.roll_back_each.ensures.gone;
     }
 
-pub roll-back-each-loop-job-init : goal.roll-back-each-loop-job-init
-roll-back-each-loop-job-init t c =
+pub roll_back_each-loop-job-init : goal.roll_back_each-loop-job-init
+roll_back_each-loop-job-init t c =
     let none : c.empty-gone.result.bits ≡ 0 = ap (λ (s : JobSet). s.bits) c.empty-gone.ensures.value in
     rolling_none c.args.self.now _ c.empty-gone.result (omega arith) c.empty-gone.ensures.members
 
-pub roll-back-each-roll-back-one-requires : goal.roll-back-each-roll-back-one-requires
-roll-back-each-roll-back-one-requires t c =
+pub roll_back_each_roll_back_one-requires : goal.roll_back_each_roll_back_one-requires
+roll_back_each_roll_back_one-requires t c =
     let fewer = left_fewer c.args.self.now c.loop-job.self (member c.loop-job.gone) c.loop-job.invariant.leaving in
     let f : 2 * how_many (is_pending c.loop-job.self.order) 16 < t = omega arith in
     (f, tt)
 
-pub roll-back-each-loop-job-preserved : goal.roll-back-each-loop-job-preserved
-roll-back-each-loop-job-preserved t c =
+pub roll_back_each-loop-job-preserved : goal.roll_back_each-loop-job-preserved
+roll_back_each-loop-job-preserved t c =
     let step = next_some _ _ _ c.in-Some.ensures.steps.0 c.in-Some.ensures.steps.1 in
-    rolling_more c.args.self.now _ c.loop-job.self c.roll-back-one.new.self _ _ c.loop-job.gone c.roll-back-one.result c.union-gone.result
+    rolling_more c.args.self.now _ c.loop-job.self c.roll_back_one.new.self _ _ c.loop-job.gone c.roll_back_one.result c.union-gone.result
     c.in-Some.job.number c.in-Some.job.low step.0 step.1 (set_fits _ _ c.union-gone.ensures.value) c.union-gone.ensures.members
-    c.loop-job.invariant c.roll-back-one.ensures.left c.roll-back-one.ensures.gone
+    c.loop-job.invariant c.roll_back_one.ensures.left c.roll_back_one.ensures.gone
 
-pub roll-back-each-returns : goal.roll-back-each-returns
-roll-back-each-returns t c =
+pub roll_back_each-returns : goal.roll_back_each-returns
+roll_back_each-returns t c =
     let all : c.into_iter-job-iterator.result.left ≡ c.args.jobs =
     ap (λ (m : Members). m.left) c.into_iter-job-iterator.ensures.into_iter_gives ∙ c.members-job-items.ensures in
     let inv = c.loop-job.invariant in

@@ -13,9 +13,9 @@ pub returns-in-Some : goal.returns-in-Some
 returns-in-Some g c v h =
     let t : OpenTables = c.args.self.now in
     let last = sym (c.in-Some.ensures ∙ ap (λ (x : Record). last_listed (listed x.writers)) c.at.ensures) in
-    let bound : c.place-of.result < length c.args.values.now = omega (arith, t.few, c.in-Some.writer.low, c.place-of.ensures) in
-    let value = ap (λ (i : ℕ). value_at c.args.values.now i) (sym c.place-of.ensures)
-    ∙ value_read c.args.values.now c.place-of.result c.index-values-place-of.result bound c.index-values-place-of.is in
+    let bound : c.place_of.result < length c.args.values.now = omega (arith, t.few, c.in-Some.writer.low, c.place_of.ensures) in
+    let value = ap (λ (i : ℕ). value_at c.args.values.now i) (sym c.place_of.ensures)
+    ∙ value_read c.args.values.now c.place_of.result c.index-values-place_of.result bound c.index-values-place_of.is in
     sym (last_value t.count c.args.parameter c.args.values.now (writers_in t c.args.parameter) v _ _ last value)
 
 pub returns-in-None : goal.returns-in-None

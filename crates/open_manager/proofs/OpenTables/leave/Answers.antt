@@ -3,8 +3,8 @@ use Rattle.open_manager.specs.declared.OpenTables.{OpenTables}
 use Rattle.open_manager.proofs.Holding.{holds_left}
 use Rattle.open_manager.proofs.OpenTables.leave.Goals as goal
 
-pub invariant-of-self : goal.invariant-of-self
-invariant-of-self c =
+pub invariant_of-self : goal.invariant_of-self
+invariant_of-self c =
     let t : OpenTables = c.args.self.now in
     let j : ℕ = c.args.job.number in (
       t.some,

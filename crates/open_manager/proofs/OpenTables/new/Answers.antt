@@ -5,8 +5,8 @@ use Rattle.jobs.proofs.Jobs.{member_none}
 use Rattle.open_manager.proofs.Holding.{holds_none}
 use Rattle.open_manager.proofs.OpenTables.new.Goals as goal
 
-pub invariant-of-result : goal.invariant-of-result
-invariant-of-result c = (
+pub invariant_of-result : goal.invariant_of-result
+invariant_of-result c = (
   omega arith,
   (
     omega arith,

@@ -5,9 +5,9 @@ use Rattle.open_manager.proofs.OpenTables.set_up.Goals as goal
 pub returns : goal.returns
 returns g c = record {
   fresh =
-      fresh_means c.new.result c.args.starting.now c.copy-from-slice.new.self _ c.copy-from-slice.ensures.after c.new.ensures;
+      fresh_means c.new.result c.args.starting.now c.copy_from_slice.new.self _ c.copy_from_slice.ensures.after c.new.ensures;
   count = c.new.ensures.count;
   memory =
       let whole : length c.args.starting.now - 0 ≡ length c.args.starting.now = omega arith in
-      ap₂ (λ (front : List g.row.V.Denot) (n : ℕ). front ++ drop n c.args.values.now) c.copy-from-slice.ensures.after whole;
+      ap₂ (λ (front : List g.row.V.Denot) (n : ℕ). front ++ drop n c.args.values.now) c.copy_from_slice.ensures.after whole;
 }

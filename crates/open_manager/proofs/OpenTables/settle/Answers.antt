@@ -8,7 +8,7 @@ use Rattle.open_manager.specs.Lists.{among}
 use Rattle.open_manager.specs.Writers.{listed}
 use Rattle.open_manager.specs.Open.{writers_in}
 use Rattle.open_manager.proofs.OpenTables.settle.Goals as goal
-use Rattle.open_manager.proofs.OpenTables.settle.Goals.{then-is-writer, else-is-writer}
+use Rattle.open_manager.proofs.OpenTables.settle.Goals.{then-is_writer, else-is_writer}
 
 pub loop-p-preserved : goal.loop-p-preserved
 loop-p-preserved g c =
@@ -17,20 +17,20 @@ loop-p-preserved g c =
     let p : ℕ = c.loop-p.p in
     let wrote : ℕ → Bool = λ q. among (writers_in t q) j in
     let now : List g.row.V.Denot = c.loop-p.values in
-    let here : wrote p ≡ c.is-writer.result =
-    ap (λ (x : Record). among (listed x.writers) j) (sym c.at.ensures) ∙ sym c.is-writer.ensures in
-    elim c.if-is-writer.branch [
-      | then-is-writer w ↦
-          let bound : w.place-of.result < length now =
-          omega (arith, t.few, c.args.job.low, w.place-of.ensures, c.loop-p.invariant.0, c.requires) in
-          let value = ap (λ (i : ℕ). value_at now i) (sym w.place-of.ensures)
-          ∙ value_read now w.place-of.result w.index-values-place-of.result bound w.index-values-place-of.is in
+    let here : wrote p ≡ c.is_writer.result =
+    ap (λ (x : Record). among (listed x.writers) j) (sym c.at.ensures) ∙ sym c.is_writer.ensures in
+    elim c.if-is_writer.branch [
+      | then-is_writer w ↦
+          let bound : w.place_of.result < length now =
+          omega (arith, t.few, c.args.job.low, w.place_of.ensures, c.loop-p.invariant.0, c.requires) in
+          let value = ap (λ (i : ℕ). value_at now i) (sym w.place_of.ensures)
+          ∙ value_read now w.place_of.result w.index-values-place_of.result bound w.index-values-place_of.is in
           subst (λ (vs : List g.row.V.Denot). Settling wrote t.count j c.args.values.now vs (p + 1)) (sym w.values-is)
           (settling_more wrote t.count j c.args.values.now now p _ (omega arith) (omega (arith, c.loop-p.invariant.0, c.requires))
-          c.loop-p.invariant (here ∙ w.if-is-writer.true) value)
-      | else-is-writer w ↦
+          c.loop-p.invariant (here ∙ w.if-is_writer.true) value)
+      | else-is_writer w ↦
           subst (λ (vs : List g.row.V.Denot). Settling wrote t.count j c.args.values.now vs (p + 1)) (sym w.values-is)
-          (settling_skip wrote t.count j c.args.values.now now p c.loop-p.invariant (here ∙ w.if-is-writer.false))
+          (settling_skip wrote t.count j c.args.values.now now p c.loop-p.invariant (here ∙ w.if-is_writer.false))
     ]
 
 pub returns : goal.returns

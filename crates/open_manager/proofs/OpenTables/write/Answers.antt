@@ -6,24 +6,24 @@ use Rattle.open_manager.specs.Open.{WriteNoted}
 use Rattle.open_manager.proofs.OpenCalls.{write_refused, write_obeys}
 use Rattle.open_manager.proofs.OpenTables.write.Goals as goal
 
-pub returns-in-err-job : goal.returns-in-err-job
-returns-in-err-job g c = record {
-  follows-the-rules =
-      exits _ _ c.from-residual.ensures.1 (write_refused c.args.self.now c.args.values.now c.requires _ _ _ _ c.in-err-job.ensures);
-  refusal-changes-nothing = MatchResult-from_err _ _ _ c.from-residual.ensures.0 (λ _. (refl, refl));
-  memory = MatchResult-from_err _ _ _ c.from-residual.ensures.0 (λ _. refl);
-  count-stays = refl;
+pub returns-in_err-job : goal.returns-in_err-job
+returns-in_err-job g c = record {
+  follows_the_rules =
+      exits _ _ c.from_residual.ensures.1 (write_refused c.args.self.now c.args.values.now c.requires _ _ _ _ c.in_err-job.ensures);
+  refusal_changes_nothing = MatchResult-from_err _ _ _ c.from_residual.ensures.0 (λ _. (refl, refl));
+  memory = MatchResult-from_err _ _ _ c.from_residual.ensures.0 (λ _. refl);
+  count_stays = refl;
 }
 
 pub returns : goal.returns
 returns g c =
-    let ok = c.in-ok-job.ensures in
-    let at : c.place-of.result ≡ place c.args.self.now.count c.args.parameter c.args.job =
-    c.place-of.ensures ∙ ap (λ (n : ℕ). place c.args.self.now.count c.args.parameter n) ok.0 in
-    let noted = subst (λ (n : ℕ). WriteNoted c.args.self.now c.args.parameter n c.note-write.new.self) ok.0 c.note-write.ensures in
+    let ok = c.in_ok-job.ensures in
+    let at : c.place_of.result ≡ place c.args.self.now.count c.args.parameter c.args.job =
+    c.place_of.ensures ∙ ap (λ (n : ℕ). place c.args.self.now.count c.args.parameter n) ok.0 in
+    let noted = subst (λ (n : ℕ). WriteNoted c.args.self.now c.args.parameter n c.note_write.new.self) ok.0 c.note_write.ensures in
     record {
-      follows-the-rules = write_obeys c.args.self.now c.args.values.now c.requires _ c.note-write.new.self _ _ _ at ok.1 noted;
-      refusal-changes-nothing = tt;
+      follows_the_rules = write_obeys c.args.self.now c.args.values.now c.requires _ c.note_write.new.self _ _ _ at ok.1 noted;
+      refusal_changes_nothing = tt;
       memory = ap (λ (i : ℕ). set c.args.values.now i c.args.value) at;
-      count-stays = c.note-write.ensures.count;
+      count_stays = c.note_write.ensures.count;
     }

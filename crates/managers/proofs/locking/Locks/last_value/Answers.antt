@@ -11,9 +11,9 @@ pub returns-in-Some : goal.returns-in-Some
 returns-in-Some g c v h =
     let t : Locks = c.args.self.now in
     let writer = ap (λ (l : Lock). l.writer) (lock_read t c.args.parameter c.index-self-parameter.result c.requires.0) ∙ c.in-Some.is in
-    let bound : c.place-of.result < length c.args.values.now = omega (arith, t.few, c.in-Some.writer.low, c.place-of.ensures) in
-    let value = ap (λ (i : ℕ). value_at c.args.values.now i) (sym c.place-of.ensures)
-    ∙ value_read c.args.values.now c.place-of.result c.index-values-place-of.result bound c.index-values-place-of.is in
+    let bound : c.place_of.result < length c.args.values.now = omega (arith, t.few, c.in-Some.writer.low, c.place_of.ensures) in
+    let value = ap (λ (i : ℕ). value_at c.args.values.now i) (sym c.place_of.ensures)
+    ∙ value_read c.args.values.now c.place_of.result c.index-values-place_of.result bound c.index-values-place_of.is in
     last_written t c.args.values.now c.args.parameter v _ c.in-Some.writer writer value
 
 pub returns-in-None : goal.returns-in-None

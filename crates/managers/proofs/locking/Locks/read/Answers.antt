@@ -5,20 +5,20 @@ use Rattle.managers.proofs.Faults.{exits}
 use Rattle.managers.proofs.LockCalls.{read_refused, read_obeys}
 use Rattle.managers.proofs.locking.Locks.read.Goals as goal
 
-pub returns-in-err-job : goal.returns-in-err-job
-returns-in-err-job g c = record {
-  follows-the-rules =
-      exits _ _ c.from-residual.ensures.1 (read_refused c.args.self.now c.args.values.now c.requires _ _ _ c.in-err-job.ensures);
-  refusal-changes-nothing = MatchResult-from_err _ _ _ c.from-residual.ensures.0 (λ _. refl);
-  count-stays = refl;
+pub returns-in_err-job : goal.returns-in_err-job
+returns-in_err-job g c = record {
+  follows_the_rules =
+      exits _ _ c.from_residual.ensures.1 (read_refused c.args.self.now c.args.values.now c.requires _ _ _ c.in_err-job.ensures);
+  refusal_changes_nothing = MatchResult-from_err _ _ _ c.from_residual.ensures.0 (λ _. refl);
+  count_stays = refl;
 }
 
 pub returns : goal.returns
 returns g c =
-    let ok = c.in-ok-job.ensures in
-    let noted = subst (λ (n : ℕ). ReaderNoted c.args.self.now c.args.parameter n c.note-reader.new.self) ok.0 c.note-reader.ensures in
+    let ok = c.in_ok-job.ensures in
+    let noted = subst (λ (n : ℕ). ReaderNoted c.args.self.now c.args.parameter n c.note_reader.new.self) ok.0 c.note_reader.ensures in
     record {
-      follows-the-rules = read_obeys c.args.self.now c.note-reader.new.self c.args.values.now c.requires _ _ _ ok.1 c.last-value-value.ensures noted;
-      refusal-changes-nothing = tt;
-      count-stays = c.note-reader.ensures.count;
+      follows_the_rules = read_obeys c.args.self.now c.note_reader.new.self c.args.values.now c.requires _ _ _ ok.1 c.last_value-value.ensures noted;
+      refusal_changes_nothing = tt;
+      count_stays = c.note_reader.ensures.count;
     }

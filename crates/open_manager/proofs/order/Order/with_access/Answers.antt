@@ -2,16 +2,16 @@ use Rattle.std.proofs.Common.{arith}
 use Rattle.std.proofs.lemmas.Bool.Decides.{nat_tests}
 use Rattle.open_manager.proofs.order.Order.with_access.Goals as goal
 
-pub invariant-of-result : goal.invariant-of-result
-invariant-of-result c = (
-  λ j. let x = c.with-edges.ensures.pairs j j in let y = c.args.self.itself j in let z = c.requires.others in grind (arith, nat_tests),
+pub invariant_of-result : goal.invariant_of-result
+invariant_of-result c = (
+  λ j. let x = c.with_edges.ensures.pairs j j in let y = c.args.self.itself j in let z = c.requires.others in grind (arith, nat_tests),
   (
     c.args.self.reading,
     (
-      λ i k. let x = c.with-edges.ensures.pairs i k in let y = c.args.self.unordered i k in let z = c.requires.unvoted in grind (arith, nat_tests),
+      λ i k. let x = c.with_edges.ensures.pairs i k in let y = c.args.self.unordered i k in let z = c.requires.unvoted in grind (arith, nat_tests),
       (
         λ i k h.
-            let x = c.with-edges.ensures.pairs i k in
+            let x = c.with_edges.ensures.pairs i k in
             let y = c.args.self.ahead i k in
             let z = c.requires.pending i in
             let w = c.insert.ensures.members i in

@@ -2,12 +2,12 @@ use Rattle.std.proofs.Common.{arith}
 use Rattle.std.proofs.lemmas.Bool.Decides.{nat_tests}
 use Rattle.open_manager.proofs.order.Order.with_read_from.Goals as goal
 
-pub invariant-of-result : goal.invariant-of-result
-invariant-of-result c = (
+pub invariant_of-result : goal.invariant_of-result
+invariant_of-result c = (
   c.args.self.itself,
   (
     λ j k.
-        let x = c.reading-from.ensures j k in
+        let x = c.reading_from.ensures j k in
         let z = c.args.self.reading j k in
         let w = c.requires.unvoted in
         grind (arith, nat_tests),
@@ -17,7 +17,7 @@ invariant-of-result c = (
         c.args.self.ahead,
         (
           λ k i h.
-              let x = c.reading-from.ensures k i in
+              let x = c.reading_from.ensures k i in
               let z = c.args.self.readers k i in
               let w = c.requires.pending in
               grind (arith, nat_tests),

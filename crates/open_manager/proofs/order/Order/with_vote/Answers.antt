@@ -3,8 +3,8 @@ use Rattle.std.proofs.lemmas.Bool.Decides.{nat_tests}
 use Rattle.open_manager.proofs.Orders.{no_source, no_rival}
 use Rattle.open_manager.proofs.order.Order.with_vote.Goals as goal
 
-pub invariant-of-result : goal.invariant-of-result
-invariant-of-result c =
+pub invariant_of-result : goal.invariant_of-result
+invariant_of-result c =
     let source = no_source c.args.self c.args.job.number c.requires.free in
     let rival = no_rival c.args.self c.args.job.number c.requires.apart in (
       c.args.self.itself,

@@ -2,8 +2,8 @@ use Rattle.std.proofs.Common.{arith}
 use Rattle.std.proofs.lemmas.Bool.Decides.{nat_tests}
 use Rattle.open_manager.proofs.order.Order.without.Goals as goal
 
-pub invariant-of-result : goal.invariant-of-result
-invariant-of-result c = (
+pub invariant_of-result : goal.invariant_of-result
+invariant_of-result c = (
   λ j. let x = c.without.ensures.pairs j j in let y = c.args.self.itself j in grind (arith, nat_tests),
   (
     λ j k.

@@ -2,8 +2,8 @@ use Rattle.std.proofs.Common.{refl, ap, arith}
 use Rattle.open_manager.specs.Lists.{distinct, last_first_none}
 use Rattle.open_manager.proofs.writers.Writers.none.Goals as goal
 
-pub invariant-of-result-2 : goal.invariant-of-result-2
-invariant-of-result-2 c = (refl, (omega arith, (ap distinct (last_first_none _), tt)))
+pub invariant_of-result-2 : goal.invariant_of-result-2
+invariant_of-result-2 c = (refl, (omega arith, (ap distinct (last_first_none _), tt)))
 
 pub returns : goal.returns
 returns c = last_first_none _

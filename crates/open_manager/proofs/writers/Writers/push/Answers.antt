@@ -4,8 +4,8 @@ use Rattle.open_manager.specs.Lists.{distinct}
 use Rattle.open_manager.proofs.Lists.{last_first_push}
 use Rattle.open_manager.proofs.writers.Writers.push.Goals as goal
 
-pub invariant-of-result : goal.invariant-of-result
-invariant-of-result c =
+pub invariant_of-result : goal.invariant_of-result
+invariant_of-result c =
     let inside : c.args.self.len < length c.args.self.jobs = omega (arith, c.requires.room, c.args.self.whole) in
     let new = c.requires.new in
     let once = c.args.self.once in (
