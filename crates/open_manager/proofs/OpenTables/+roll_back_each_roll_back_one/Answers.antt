@@ -50,8 +50,8 @@ roll_back_each-loop-job-init t c =
     let none : c.empty-gone.result.bits ≡ 0 = ap (λ (s : JobSet). s.bits) c.empty-gone.ensures.value in
     rolling_none c.args.self.now _ c.empty-gone.result (omega arith) c.empty-gone.ensures.members
 
-pub roll_back_each_roll_back_one-requires : goal.roll_back_each_roll_back_one-requires
-roll_back_each_roll_back_one-requires t c =
+pub roll_back_each-roll_back_one-requires : goal.roll_back_each-roll_back_one-requires
+roll_back_each-roll_back_one-requires t c =
     let fewer = left_fewer c.args.self.now c.loop-job.self (member c.loop-job.gone) c.loop-job.invariant.leaving in
     let f : 2 * how_many (is_pending c.loop-job.self.order) 16 < t = omega arith in
     (f, tt)

@@ -6,17 +6,14 @@ use Rattle.open_manager.proofs.OpenTables.leave.Goals as goal
 pub invariant_of-self : goal.invariant_of-self
 invariant_of-self c =
     let t : OpenTables = c.args.self.now in
-    let j : ℕ = c.args.job.number in (
-      t.some,
-      (
-        t.few,
-        (
-          λ k. c.without-self.ensures.pending k ∙ ap (λ (b : Bool). b && not (eqb k j)) (t.exact k)
-              ∙ sym (holds_left t.records.entries c.leave.new.self.entries t.count j c.leave.ensures k),
-          tt,
-        ),
-      ),
-    )
+    let j : ℕ = c.args.job.number in
+    record {
+      some = t.some;
+      few = t.few;
+      exact = λ k.
+          c.without-self.ensures.pending k ∙ ap (λ (b : Bool). b && not (eqb k j)) (t.exact k)
+          ∙ sym (holds_left t.records.entries c.leave.new.self.entries t.count j c.leave.ensures k);
+    }
 
 pub returns : goal.returns
 returns c =

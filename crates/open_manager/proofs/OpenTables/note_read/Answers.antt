@@ -24,21 +24,17 @@ with_access-order-requires c = record {
 
 pub invariant_of-self : goal.invariant_of-self
 invariant_of-self c =
-    let t : OpenTables = c.args.self.now in (
-      t.some,
-      (
-        t.few,
-        (
-          λ k.
-              let x : member c.with_source-self.result.pending k ≡ member c.with_access-order.result.pending k =
-              ap (λ (s : JobSet). member s k) c.with_source-self.ensures.pending in
-              x ∙ c.with_access-order.ensures.pending k ∙ ap (λ (b : Bool). b || eqb k c.args.job.number) (t.exact k)
-              ∙ sym (holds_read t.records.entries c.note_reader.new.self.entries t.count c.args.parameter c.args.job.number c.requires.inside
-              c.note_reader.ensures k),
-          tt,
-        ),
-      ),
-    )
+    let t : OpenTables = c.args.self.now in
+    record {
+      some = t.some;
+      few = t.few;
+      exact = λ k.
+          let x : member c.with_source-self.result.pending k ≡ member c.with_access-order.result.pending k =
+          ap (λ (s : JobSet). member s k) c.with_source-self.ensures.pending in
+          x ∙ c.with_access-order.ensures.pending k ∙ ap (λ (b : Bool). b || eqb k c.args.job.number) (t.exact k)
+          ∙ sym (holds_read t.records.entries c.note_reader.new.self.entries t.count c.args.parameter c.args.job.number c.requires.inside
+          c.note_reader.ensures k);
+    }
 
 pub returns : goal.returns
 returns c =

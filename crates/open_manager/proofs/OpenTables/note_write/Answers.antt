@@ -17,18 +17,15 @@ with_access-self-requires c = record {
 
 pub invariant_of-self : goal.invariant_of-self
 invariant_of-self c =
-    let t : OpenTables = c.args.self.now in (
-      t.some,
-      (
-        t.few,
-        (
-          λ k. c.with_access-self.ensures.pending k ∙ ap (λ (b : Bool). b || eqb k c.args.job.number) (t.exact k)
-              ∙ sym (holds_write t.records.entries c.note_writer.new.self.entries t.count c.args.parameter c.args.job.number c.requires.inside
-              c.note_writer.ensures k),
-          tt,
-        ),
-      ),
-    )
+    let t : OpenTables = c.args.self.now in
+    record {
+      some = t.some;
+      few = t.few;
+      exact = λ k.
+          c.with_access-self.ensures.pending k ∙ ap (λ (b : Bool). b || eqb k c.args.job.number) (t.exact k)
+          ∙ sym (holds_write t.records.entries c.note_writer.new.self.entries t.count c.args.parameter c.args.job.number c.requires.inside
+          c.note_writer.ensures k);
+    }
 
 pub returns : goal.returns
 returns c = record {

@@ -8,10 +8,12 @@ pub invariant_of-result : goal.invariant_of-result
 invariant_of-result c =
     let inside : c.args.self.len < length c.args.self.jobs = omega (arith, c.requires.room, c.args.self.whole) in
     let new = c.requires.new in
-    let once = c.args.self.once in (
-      length-set c.args.self.jobs c.args.self.len c.args.job ∙ c.args.self.whole,
-      (omega (arith, c.requires.room), (ap distinct (last_first_push c.args.self.jobs c.args.self.len c.args.job inside) ∙ (grind (arith, nat_tests)), tt)),
-    )
+    let once = c.args.self.once in
+    record {
+      whole = length-set c.args.self.jobs c.args.self.len c.args.job ∙ c.args.self.whole;
+      few = omega (arith, c.requires.room);
+      once = ap distinct (last_first_push c.args.self.jobs c.args.self.len c.args.job inside) ∙ (grind (arith, nat_tests));
+    }
 
 pub returns : goal.returns
 returns c =

@@ -37,12 +37,12 @@ loop-i-preserved c =
     elim c.if-number.branch [
       | then-number w ↦
           let stays : gone x ≡ false =
-          ne_eqb x c.args.job.number (λ e. w.if-number.true (c.number.ensures ∙ e ∙ sym c.number_in-loop-i.ensures)) in (
+          ne_eqb x c.args.job.number (λ e. w.if-number.true (c.number.ensures ∙ e ∙ sym c.number-in-loop-i.ensures)) in (
             omega (arith, w.push-others.ensures.len, ap (λ (v : Writers). v.len) w.others-is),
             ap listed w.others-is ∙ w.push-others.ensures.jobs ∙ ap (λ (js : List ℕ). x ∷ js) c.loop-i.invariant.1 ∙ sym (next false stays),
           )
       | else-number w ↦
-          let goes : gone x ≡ true = eq-eqb x c.args.job.number (sym c.number.ensures ∙ w.if-number.false ∙ c.number_in-loop-i.ensures) in (
+          let goes : gone x ≡ true = eq-eqb x c.args.job.number (sym c.number.ensures ∙ w.if-number.false ∙ c.number-in-loop-i.ensures) in (
             omega (arith, ap (λ (v : Writers). v.len) w.others-is),
             ap listed w.others-is ∙ c.loop-i.invariant.1 ∙ sym (next true goes),
           )
