@@ -31,3 +31,27 @@ impl Job {
         self.number
     }
 }
+
+impl Default for Job {
+    ghost is_default = { λ job. job.number ≡ 0 };
+
+    fn default() -> Job {
+        Job::FIRST
+    }
+}
+
+impl From<Job> for u8 {
+    ghost from_gives = { λ job n. n ≡ job.number };
+
+    fn from(job: Job) -> u8 {
+        job.number
+    }
+}
+
+impl From<Job> for usize {
+    ghost from_gives = { λ job n. n ≡ job.number };
+
+    fn from(job: Job) -> usize {
+        usize::from(job.number)
+    }
+}

@@ -1,6 +1,5 @@
 #![tactic(auto)]
 
-mod bits;
 pub mod job;
 pub mod members;
 pub mod relation;

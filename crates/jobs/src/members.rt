@@ -1,4 +1,4 @@
-ghost use Rattle.std.specs.Prelude.{◌≡◌, ◌<◌, OnSome};
+ghost use Rattle.std.specs.Prelude.{◌≡◌};
 ghost use Rattle.jobs.specs.Sets.{lowest, how_many};
 ghost use Rattle.jobs.specs.Jobs.{member, number_in, after_next};
 ghost use Rattle.std.specs.Iterator.{at_most};
@@ -21,18 +21,6 @@ impl Members {
     }
 }
 
-// The lowest member, if there is one, and the set without it.
-fn lowest_and_rest(set: JobSet) -> (Option<Job>, JobSet)
-    ensures lowest { number_in result.0 ≡ lowest (member set) 16 }
-    ensures rest { result.1 ≡ after_next set (number_in result.0) }
-    ensures fewer { OnSome result.0 (how_many (member result.1) 16 < how_many (member set) 16) }
-{
-    match set.lowest() {
-        Some(job) => (Some(job), set.remove(job)),
-        None => (None, set),
-    }
-}
-
 impl Iterator for Members {
     type Item = Job;
 
@@ -42,8 +30,20 @@ impl Iterator for Members {
     ghost remaining = { λ s. at_most (how_many (member s.left) 16) };
 
     fn next(&mut self) -> Option<Job> {
-        let (lowest, rest) = lowest_and_rest(self.left);
-        self.left = rest;
-        lowest
+        let job = self.left.lowest()?;
+        self.left = self.left.remove(job);
+        Some(job)
+    }
+}
+
+impl IntoIterator for JobSet {
+    type Item = Job;
+
+    type IntoIter = Members;
+
+    ghost into_iter_gives = { λ set members. members.left ≡ set };
+
+    fn into_iter(self) -> Members {
+        self.members()
     }
 }

@@ -2,7 +2,6 @@ ghost use Rattle.std.specs.Prelude.{◌≡◌, ℕ, true, false, not, ◌&&◌, 
 ghost use Rattle.jobs.specs.Sets.{lowest, how_many, any_below};
 ghost use Rattle.jobs.specs.Jobs.{member, no_jobs, jobs_where, number_in};
 
-use crate::bits::{all, both, either, has, is_zero, lowest_bit, none, one, ones, without};
 use crate::job::Job;
 use crate::members::Members;
 
@@ -12,13 +11,14 @@ pub struct JobSet {
     bits: u16,
 }
 
+#[tactic(auto, using(crate::proofs::Jobs::operations))]
 impl JobSet {
     // The set of nobody.
     pub fn empty() -> JobSet
         ensures value { result ≡ no_jobs }
         ensures members { (k : ℕ) → member result k ≡ false }
     {
-        JobSet { bits: none() }
+        JobSet { bits: 0 }
     }
 
     // The set of all jobs.
@@ -26,7 +26,7 @@ impl JobSet {
         ensures value { result ≡ jobs_where (λ k. true) }
         ensures members { (k : ℕ) → member result k ≡ nat_lt k 16 }
     {
-        JobSet { bits: all() }
+        JobSet { bits: u16::MAX }
     }
 
     // The set of one job.
@@ -34,7 +34,9 @@ impl JobSet {
         ensures value { result ≡ jobs_where (λ k. nat_eq k job.number) }
         ensures members { (k : ℕ) → member result k ≡ (k == job.number) }
     {
-        JobSet { bits: one(job) }
+        JobSet {
+            bits: 1 << job.number(),
+        }
     }
 
     // The set with that job.
@@ -57,7 +59,7 @@ impl JobSet {
     pub fn contains(self, job: Job) -> bool
         ensures { result ≡ member self job.number }
     {
-        has(self.bits, job)
+        self.bits >> job.number() & 1 == 1
     }
 
     // The members of either set.
@@ -66,7 +68,7 @@ impl JobSet {
         ensures members { (k : ℕ) → member result k ≡ (member self k || member other k) }
     {
         JobSet {
-            bits: either(self.bits, other.bits),
+            bits: self.bits | other.bits,
         }
     }
 
@@ -76,7 +78,7 @@ impl JobSet {
         ensures members { (k : ℕ) → member result k ≡ (member self k && member other k) }
     {
         JobSet {
-            bits: both(self.bits, other.bits),
+            bits: self.bits & other.bits,
         }
     }
 
@@ -86,7 +88,7 @@ impl JobSet {
         ensures members { (k : ℕ) → member result k ≡ (member self k && not (member other k)) }
     {
         JobSet {
-            bits: without(self.bits, other.bits),
+            bits: self.bits & !other.bits,
         }
     }
 
@@ -95,21 +97,23 @@ impl JobSet {
         ensures value { result ≡ (self.bits == 0) }
         ensures members { result ≡ not (any_below (member self) 16) }
     {
-        is_zero(self.bits)
+        self.bits == 0
     }
 
     // The member of the lowest number.
     pub fn lowest(self) -> Option<Job>
         ensures { number_in result ≡ lowest (member self) 16 }
     {
-        Job::new(lowest_bit(self.bits))
+        // the cast is shown to lose nothing, where `try_from` would have a branch that never comes
+        Job::new(self.bits.trailing_zeros() as u8)
     }
 
     // How many members there are.
     pub fn count(self) -> u8
         ensures { result ≡ how_many (member self) 16 }
     {
-        ones(self.bits)
+        // as for the lowest
+        self.bits.count_ones() as u8
     }
 
     // The members in rising order.

@@ -6,7 +6,6 @@ ghost use Rattle.jobs.specs.Relations.{row, related};
 
 use crate::job::Job;
 use crate::relation::Relation;
-use crate::relation::rows::{added, column, removed};
 use crate::set::JobSet;
 
 impl Relation {
@@ -25,9 +24,12 @@ impl Relation {
         ensures rows { (i : ℕ) → row result i ≡ (if member from i then jobs_where (λ k. related self i k || k == to.number) else row self i) }
         ensures pairs { (i k : ℕ) → related result i k ≡ (related self i k || (member from i && k == to.number)) }
     {
-        Relation {
-            rows: added(self.rows, from, to),
+        let mut rows = self.rows;
+        for job in from {
+            let row = &mut rows[usize::from(job)];
+            *row = row.insert(to);
         }
+        Relation { rows }
     }
 
     // The relation without the edges to and from that job.
@@ -35,9 +37,12 @@ impl Relation {
         ensures rows { (i : ℕ) → row result i ≡ (if nat_eq i job.number then no_jobs else jobs_where (λ k. related self i k && not (k == job.number))) }
         ensures pairs { (i k : ℕ) → related result i k ≡ (related self i k && (not (i == job.number) && not (k == job.number))) }
     {
-        Relation {
-            rows: removed(self.rows, job),
+        let mut rows = self.rows;
+        for row in rows.iter_mut() {
+            *row = row.remove(job);
         }
+        rows[usize::from(job)] = JobSet::empty();
+        Relation { rows }
     }
 
     // The jobs to which that job is related.
@@ -45,7 +50,7 @@ impl Relation {
         ensures value { result ≡ row self job.number }
         ensures members { (k : ℕ) → member result k ≡ related self job.number k }
     {
-        self.rows[job.number() as usize]
+        self.rows[usize::from(job)]
     }
 
     // The jobs that are related to that job.
@@ -53,6 +58,12 @@ impl Relation {
         ensures value { result ≡ jobs_where (λ i. related self i job.number) }
         ensures members { (i : ℕ) → member result i ≡ related self i job.number }
     {
-        column(self.rows, job)
+        let mut found = JobSet::empty();
+        for other in JobSet::all() {
+            if self.rows[usize::from(other)].contains(job) {
+                found = found.insert(other);
+            }
+        }
+        found
     }
 }
