@@ -1,5 +1,8 @@
-ghost use Rattle.std.specs.Prelude.{◌≡◌};
-ghost use Rattle.rules.specs.Faults.{number_of};
+ghost use Rattle.std.specs.Prelude.{◌≡◌, Some};
+ghost use Rattle.rules.specs.Faults.{number_of, words_of};
+
+use std::error::Error;
+use std::fmt;
 
 // Why a resource manager refuses a call. Where another job is in the way, its number stands in the case.
 #[derive(Clone, Copy, PartialEq, Eq, Debug)]
@@ -57,3 +60,18 @@ impl ManagerFault {
         }
     }
 }
+
+// A refusal is told by its number, and by the job that is in the way.
+impl fmt::Display for ManagerFault {
+    ghost output = { λ f. Some (words_of f) };
+
+    fn fmt<W: fmt::Write>(&self, f: &mut fmt::Formatter<W>) -> fmt::Result {
+        let number = self.number();
+        match self.blocker() {
+            Some(job) => write!(f, "refused by {number}, because of job {job}"),
+            None => write!(f, "refused by {number}"),
+        }
+    }
+}
+
+impl Error for ManagerFault {}
