@@ -1,31 +1,26 @@
 // The calls of an open manager on tables and memory of one's own, as firmware makes them that keeps its values in an array.
 
-use crate::calls::{done, lost, refused, value};
 use open_manager::{
     OpenTables, commit_in, read_in, roll_back_in, set_up_in, settled_in, vote_in, write_in,
 };
 use std::fmt::Display;
 use std::io;
+use std::io::Write;
+use telling::lines::{tell_commit, tell_read, tell_roll_back, tell_settled, tell_vote, tell_write};
 
 // Job 0 writes parameter 1, and job 1 reads it and is rolled back before job 0 is committed.
-fn share<V: Copy + Display>(
-    rt: &HostRuntime,
+fn share<V: Copy + Display, W: Write>(
+    out: &mut W,
     tables: &mut OpenTables,
     values: &mut [V],
     wanted: V,
 ) -> io::Result<()> {
-    print!(rt; "job 0 writes {wanted} to parameter 1: ")?;
-    done(rt, write_in(tables, values, 0, 1, wanted))?;
-    print!(rt; "job 1 reads parameter 1: ")?;
-    value(rt, read_in(tables, values, 1, 1))?;
-    print!(rt; "roll back job 1: ")?;
-    lost(rt, roll_back_in(tables, values, 1))?;
-    print!(rt; "vote on job 0: ")?;
-    done(rt, vote_in(tables, values, 0))?;
-    print!(rt; "commit job 0: ")?;
-    lost(rt, commit_in(tables, values, 0))?;
-    print!(rt; "settled parameter 1: ")?;
-    value(rt, settled_in(tables, values, 1))
+    tell_write(out, 0, 1, wanted, write_in(tables, values, 0, 1, wanted))?;
+    tell_read(out, 1, 1, read_in(tables, values, 1, 1))?;
+    tell_roll_back(out, 1, roll_back_in(tables, values, 1))?;
+    tell_vote(out, 0, vote_in(tables, values, 0))?;
+    tell_commit(out, 0, commit_in(tables, values, 0))?;
+    tell_settled(out, 1, settled_in(tables, values, 1))
 }
 
 // Sets tables up in that memory, and plays the scene there; too little memory is refused.
@@ -36,7 +31,7 @@ pub fn play_on<V: Copy + Display>(
     wanted: V,
 ) -> io::Result<()> {
     match set_up_in(values, starting) {
-        Ok(mut tables) => share(rt, &mut tables, values, wanted),
-        Err(fault) => refused(rt, fault),
+        Ok(mut tables) => share(&mut io::writer(rt), &mut tables, values, wanted),
+        Err(fault) => println!(rt; "{fault}"),
     }
 }

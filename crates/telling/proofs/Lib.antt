@@ -1,0 +1,5 @@
+pub mod Spaced
+pub mod LostSoFar
+pub mod Written
+pub mod SettledLines
+pub mod Idle
