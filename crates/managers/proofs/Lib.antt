@@ -1,8 +1,9 @@
 pub mod Faults
 pub mod Refusals
 pub mod Settling
-pub mod Settled
-pub mod Lending
+pub mod Stored
+pub mod Filled
+pub mod Obeyed
 pub mod LockTables
 pub mod LockChanges
 pub mod LockCalls

@@ -1,15 +1,15 @@
--- What the tables and the memory of a locking manager mean.
-use Rattle.std.specs.Prelude.{◌≡◌, ℕ, Bool, false, cond, not, ◌&&◌, ◌||◌, List, [], ◌∷◌, length, take, Some, None, Err, Option, Result, ◌==◌, ◌≢◌, nat_le, slice_index_or}
+-- What the tables of a locking manager hold, and what they mean together with the values in memory.
+use Rattle.std.specs.Prelude.{◌≡◌, ℕ, Bool, false, not, ◌&&◌, ◌||◌, List, [], ◌∷◌, replicate, Some, None, Option, ◌==◌, ◌≢◌, if◌then◌else◌, nat_le, slice_index_or}
 use Rattle.jobs.specs.declared.job.Job.{Job}
-use Rattle.jobs.specs.Sets.{names, lowest, any_below}
+use Rattle.jobs.specs.Sets.{names, lowest}
 use Rattle.jobs.specs.Jobs.{member, no_jobs, number_in}
 use Rattle.rules.specs.declared.access.Access.{Access}
 use Rattle.rules.specs.declared.fault.ManagerFault.{ManagerFault}
-use Rattle.rules.specs.declared.fault.ManagerFault.TheVariants.{NoJob, NoParameter, NoRoom, Voted, NotPending, Conflict}
-use Rattle.rules.specs.Manager.{Manager, Writes, value_at, conflicts_among}
-use Rattle.rules.specs.Calls.{Admits, Answered, refuse_if, settled_of}
-use Rattle.managers.specs.Memory.{place, room_for}
+use Rattle.rules.specs.declared.fault.ManagerFault.TheVariants.{NoJob, NoParameter, Voted, Conflict}
+use Rattle.rules.specs.Manager.{Manager, Writes, conflicts_among, conflict_of}
+use Rattle.rules.specs.Calls.{Admits, stops}
 use Rattle.managers.specs.Faults.{fault_if, fault_by}
+use Rattle.managers.specs.Tables.{Held, with_values}
 use Rattle.managers.specs.declared.locking.Lock.{Lock}
 use Rattle.managers.specs.declared.locking.Locks.{Locks}
 
@@ -37,61 +37,38 @@ rivals l j a k = conflicts_among (member l.readers) (is_writer l) j a k
 abbrev pub access_fault : Locks → ℕ → ℕ → Access → Option ManagerFault
 access_fault t j p a =
     fault_if (nat_le 16 j) NoJob
-    (fault_if (nat_le t.count p) NoParameter
+    (fault_if (nat_le t.count.number p) NoParameter
     (fault_if (member t.voted j) Voted
     (fault_by (lowest (rivals (lock_at t.locks p) j a) 16) Conflict
     None)))
 
--- is j pending, by the tables
-abbrev pub pending_in : Locks → ℕ → Bool
-pending_in t j = any_below (λ p. holds (lock_at t.locks p) j) t.count
+-- the pending writes of a parameter, by who writes it
+abbrev pub writes_of : Option Job → Writes (Unit {0})
+writes_of None = []
+writes_of (Some w) = (w.number, tt) ∷ []
 
--- why a call for a job j that has to be pending is refused
-abbrev pub pending_fault : Locks → ℕ → Option ManagerFault
-pending_fault t j =
-    fault_if (nat_le 16 j) NoJob
-    (fault_if (not (pending_in t j)) NotPending
-    None)
+-- what the tables hold: both relations are empty
+abbrev pub held_by : Locks → Held
+held_by t = record {
+  settled = replicate t.count.number tt;
+  writes = λ p. writes_of (lock_at t.locks p).writer;
+  readers = λ p k. member (lock_at t.locks p).readers k;
+  precedes = λ i k. false;
+  reads_from = λ k i. false;
+  voted = λ k. member t.voted k;
+}
 
-module _ {V : Type 0} where
-  -- a job and the value at its place, as the one pending write of a parameter
-  abbrev pub one_write : ℕ → Option V → Writes V
-  one_write j None = []
-  one_write j (Some v) = (j, v) ∷ []
-
-  -- the pending writes of parameter p, of n
-  abbrev pub writes_by : Option Job → ℕ → ℕ → List V → Writes V
-  writes_by None n p values = []
-  writes_by (Some w) n p values = one_write w.number (value_at values (place n p w.number))
-
-  -- what the tables and the values in memory mean: both relations are empty
-  abbrev pub meaning_of : Locks → List V → Manager V
-  meaning_of t values = record {
-    settled = take t.count values;
-    writes = λ p. writes_by (lock_at t.locks p).writer t.count p values;
-    readers = λ p k. member (lock_at t.locks p).readers k;
-    precedes = λ i k. false;
-    reads_from = λ k i. false;
-    voted = λ k. member t.voted k;
-  }
-
-  -- memory too small for the tables is refused before all else, and nothing changes
-  abbrev pub with_room : {A : Type 0} → Locks → List V → Answered A V → Answered A V
-  with_room t values x = refuse_if (not (room_for t.count (length values))) NoRoom (meaning_of t values) x
-
-  -- the settled value of a parameter, refused likewise where the memory is too small
-  abbrev pub settled_in : Locks → List V → ℕ → Result V ManagerFault
-  settled_in t values p = cond (room_for t.count (length values)) (settled_of (meaning_of t values) p) (Err NoRoom)
+-- what the tables and the values in memory mean
+abbrev pub meaning_of : {V : Type 0} → Locks → List V → Manager V
+meaning_of t values = with_values (held_by t) values
 
 -- no conflicting access is admitted
 abbrev pub admits_none : Admits
 admits_none j p a = false
 
--- tables for n parameters that nobody has accessed
-pub record Unused (t : Locks) (n : ℕ) : Type 0 where
-  pub count : t.count ≡ n
-  pub locks : (p : ℕ) → lock_at t.locks p ≡ no_lock
-  pub voted : t.voted ≡ no_jobs
+-- so whatever is not stopped conflicts with nobody
+abbrev pub AdmitsNoConflict : Type 0 → Type 0
+AdmitsNoConflict V = (m : Manager V) (j p : ℕ) (a : Access) → stops admits_none m j p a ≡ None → conflict_of m j p a ≡ None
 
 -- j became a reader of parameter p, and nothing else changed
 pub record ReaderNoted (t : Locks) (p j : ℕ) (u : Locks) : Type 0 where
@@ -108,16 +85,10 @@ pub record WriterNoted (t : Locks) (p : ℕ) (job : Job) (u : Locks) : Type 0 wh
   pub others : (q : ℕ) → (q ≢ p) → (lock_at u.locks q).writer ≡ (lock_at t.locks q).writer
   pub readers : (q : ℕ) → (lock_at u.locks q).readers ≡ (lock_at t.locks q).readers
 
--- j has the manager's vote, and nothing else changed
-pub record VoteNoted (t : Locks) (j : ℕ) (u : Locks) : Type 0 where
-  pub count : u.count ≡ t.count
-  pub locks : u.locks ≡ t.locks
-  pub voted : (k : ℕ) → member u.voted k ≡ (member t.voted k || k == j)
-
 -- what is left of a lock once j has left
 pub record LeftOf (l : Lock) (j : ℕ) (r : Lock) : Type 0 where
   pub readers : (k : ℕ) → member r.readers k ≡ (member l.readers k && not (k == j))
-  pub writer : r.writer ≡ cond (is_writer l j) None l.writer
+  pub writer : r.writer ≡ (if is_writer l j then None else l.writer)
 
 -- j left every lock and the votes, and nothing else changed
 pub record JobLeft (t : Locks) (j : ℕ) (u : Locks) : Type 0 where

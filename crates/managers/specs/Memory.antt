@@ -1,9 +1,10 @@
 -- Where the values of a manager's parameters stand in the memory handed over: first the settled values in the order of
 -- the parameters, then for each parameter sixteen places for the pending writes of the sixteen jobs.
-use Rattle.std.specs.Prelude.{◌≡◌, ℕ, ◌+◌, ◌*◌, Bool, cond, not, ◌&&◌, List, length, Err, Result, nat_le, nat_lt}
+use Rattle.std.specs.Prelude.{◌≡◌, ℕ, ◌+◌, ◌*◌, Bool, if◌then◌else◌, not, ◌&&◌, List, length, Err, Result, nat_le, nat_lt}
+use Rattle.std.specs.List.{slice_get}
 use Rattle.rules.specs.declared.fault.ManagerFault.{ManagerFault}
 use Rattle.rules.specs.declared.fault.ManagerFault.TheVariants.{NoRoom}
-use Rattle.rules.specs.Manager.{Manager, value_at}
+use Rattle.rules.specs.Manager.{Manager}
 use Rattle.rules.specs.Calls.{Answered, refuse_if, settled_of}
 
 -- the place of j's pending write of parameter p, where there are n parameters
@@ -25,9 +26,9 @@ module _ {V : Type 0} where
 
   -- the settled value of a parameter, refused likewise where the memory is too small
   abbrev pub settled_for : ℕ → List V → Manager V → ℕ → Result V ManagerFault
-  settled_for n values m p = cond (room_for n (length values)) (settled_of m p) (Err NoRoom)
+  settled_for n values m p = if room_for n (length values) then settled_of m p else Err NoRoom
 
 -- the pending writes of j became settled values: of the n parameters, each that j wrote has the value at j's place
 pub record Settles {V : Type 0} (wrote : ℕ → Bool) (n j : ℕ) (before after : List V) : Type 0 where
   pub len : length after ≡ length before
-  pub values : (k : ℕ) → value_at after k ≡ cond (nat_lt k n && wrote k) (value_at before (place n k j)) (value_at before k)
+  pub values : (k : ℕ) → slice_get after k ≡ (if nat_lt k n && wrote k then slice_get before (place n k j) else slice_get before k)

@@ -1,12 +1,15 @@
-ghost use Rattle.std.specs.Prelude.{◌≡◌, ◌*◌, ◌≤◌, length, vec_len};
+ghost use Rattle.std.specs.Prelude.{◌≡◌, length};
 
-pub mod tables;
+mod tables;
 
-use jobs::job::Job;
-use jobs::set::JobSet;
-pub use tables::calls::{
+pub use crate::calls::{
     commit_in, parameters_in, read_in, roll_back_in, set_up_in, settled_in, vote_in, write_in,
 };
+use crate::manager::TableManager;
+use crate::memory::Count;
+use jobs::job::Job;
+use jobs::set::JobSet;
+pub use tables::admits_no_conflict;
 
 // Who has a pending access to a parameter. A job that conflicts with one of them is refused, so there is at most one
 // pending write, and nobody else reads what is written.
@@ -16,21 +19,15 @@ struct Lock {
     writer: Option<Job>,
 }
 
-// The tables of a locking manager, free of the kind of value.
+// The tables of a locking manager, which refuses every conflicting access. They are free of the kind of value, and of fixed
+// size, since a manager allocates nothing. The first `count` locks are used.
 #[derive(Drop)]
 pub struct Locks {
-    count: u8,
+    count: Count,
     locks: [Lock; 64],
     voted: JobSet,
-    ghost some: { 1 ≤ count },
-    ghost few: { count ≤ 64 },
     ghost whole: { length locks ≡ 64 },
 }
 
-// A manager that refuses every conflicting access. It keeps the memory that is handed over for the values.
-#[derive(Drop)]
-pub struct LockingManager<V> {
-    tables: Locks,
-    memory: Vec<V>,
-    ghost room: { 32 * tables.count ≤ vec_len memory },
-}
+// A manager that refuses every conflicting access.
+pub type LockingManager<V> = TableManager<Locks, V>;

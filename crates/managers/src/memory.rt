@@ -1,4 +1,4 @@
-ghost use Rattle.std.specs.Prelude.{◌≡◌};
+ghost use Rattle.std.specs.Prelude.{◌≡◌, ◌≤◌, true, false, MatchOption};
 ghost use Rattle.managers.specs.Memory.{place, room_for, can_set_up};
 
 use jobs::job::Job;
@@ -14,7 +14,7 @@ pub const MOST_PARAMETERS: usize = 64;
 pub fn room_for(count: u8, len: usize) -> bool
     ensures { result ≡ room_for count len }
 {
-    VALUES_FOR_ONE * count as usize <= len
+    VALUES_FOR_ONE * usize::from(count) <= len
 }
 
 // Whether a manager of `count` parameters can be set up in memory for `len` values.
@@ -28,7 +28,37 @@ pub fn can_set_up(count: usize, len: usize) -> bool
 pub fn place_of(count: u8, parameter: u8, job: Job) -> usize
     ensures { result ≡ place count parameter job.number }
 {
-    count as usize + (16 * parameter as usize + job.number() as usize)
+    usize::from(count) + (16 * usize::from(parameter) + usize::from(job))
+}
+
+// How many parameters a manager has: 1 to 64.
+#[derive(Clone, Copy, PartialEq, Eq, Debug)]
+pub struct Count {
+    number: u8,
+    ghost some: { 1 ≤ number },
+    ghost few: { number ≤ 64 },
+}
+
+impl Count {
+    // That many, if a manager of so many parameters can be set up in memory for `len` values.
+    pub fn new(count: usize, len: usize) -> Option<Count>
+        ensures { MatchOption result (can_set_up count len ≡ false) (λ c. (can_set_up count len ≡ true) × (c.number ≡ count)) }
+    {
+        if can_set_up(count, len) {
+            Some(Count {
+                // the cast is shown to lose nothing, since there are at most 64
+                number: count as u8,
+            })
+        } else {
+            None
+        }
+    }
+
+    pub fn number(self) -> u8
+        ensures { result ≡ self.number }
+    {
+        self.number
+    }
 }
 
 // The refusal of a manager that cannot be set up: not 1 to 64 parameters, or too little memory. The memory comes back.

@@ -1,21 +1,20 @@
 -- Facts about the records of the parameters.
-use Rattle.std.proofs.Common.{ℕ, eqb, replicate, sym, refl, ap, ◌∙◌, arith}
+use Rattle.std.proofs.Common.{ℕ, ◌<◌, ◌≤◌, ◌⊎◌, List, length, sym, refl, subst, inl, inr, arith}
+use Rattle.std.proofs.lemmas.List.{get_or_past}
+use Rattle.std.proofs.lemmas.Bool.{cases_lt}
 use Rattle.std.proofs.lemmas.Bool.Decides.{nat_tests}
 use Rattle.jobs.proofs.Jobs.{member_none}
-use Rattle.jobs.proofs.Walks.{repeated}
 use Rattle.open_manager.specs.declared.records.Record.{Record}
-use Rattle.open_manager.specs.Lists.{leaving, last_first_none}
-use Rattle.open_manager.specs.Records.{no_writers, no_record, record_at, Unused, WithoutJob}
-
-unused_none : Unused no_record
-unused_none = record { readers = refl; writers = last_first_none no_writers.jobs }
+use Rattle.open_manager.specs.Records.{no_record, record_at, Unused, WithoutJob}
 
 -- whoever leaves a record that nobody has accessed leaves it as it is
 pub without_none : (j : ℕ) → WithoutJob no_record j no_record
-without_none j = record {
-  readers = λ k. let x = member_none k in grind (arith, nat_tests);
-  writers = let none = last_first_none no_writers.jobs in none ∙ sym (ap (leaving (λ k. eqb k j)) none);
-}
+without_none j = record { readers = λ k. let x = member_none k in grind (arith, nat_tests); writers = refl }
 
-pub unused_all : (e : Record) → Unused e → (p : ℕ) → Unused (record_at (replicate 64 e) p)
-unused_all e u = repeated no_record Unused 64 e u unused_none
+-- what holds of each record of the table holds past it too
+pub unused_all : (entries : List Record) → ((p : ℕ) → p < length entries → Unused (record_at entries p)) → (p : ℕ) → Unused (record_at entries p)
+unused_all entries each p = go (cases_lt p (length entries))
+  where
+    go : (p < length entries) ⊎ (length entries ≤ p) → Unused (record_at entries p)
+    go (inl l) = each p l
+    go (inr l) = subst Unused (sym (get_or_past entries p no_record l)) (record { readers = refl; writers = refl })

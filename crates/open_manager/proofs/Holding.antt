@@ -17,21 +17,16 @@ use Rattle.open_manager.specs.Order.{is_pending}
 use Rattle.open_manager.specs.Open.{record_in}
 use Rattle.open_manager.proofs.Lists.{among_leaving}
 
--- no access conflicts with the job's own
-pub rivals_others : (e : Record) (j : ℕ) (a : Access) → rivals e j a j ≡ false
-rivals_others e j Read = let t = eq-eqb j j refl in grind (arith, nat_tests)
-rivals_others e j Write = let t = eq-eqb j j refl in grind (arith, nat_tests)
-
 rivals_hold : (e : Record) (j : ℕ) (a : Access) (k : ℕ) → rivals e j a k ≡ true → holds e k ≡ true
 rivals_hold e j Read k h = grind (arith, nat_tests)
 rivals_hold e j Write k h = grind (arith, nat_tests)
 
 -- whoever conflicts with an access is pending
-pub rivals_pending : (t : OpenTables) (p j : ℕ) (a : Access) (e : Record) (s : JobSet) → p < t.count → e ≡ record_in t p
-    → ((k : ℕ) → member s k ≡ rivals e j a k) → (k : ℕ) → member s k ≡ true → is_pending t.order k ≡ true
-rivals_pending t p j a e s l is m k h =
+pub rivals_pending : (t : OpenTables) (p j : ℕ) (a : Access) (e : Record) (s : JobSet) (k : ℕ) → ((k : ℕ) → member s k ≡ rivals e j a k) → member s k ≡ true
+    → e ≡ record_in t p → p < t.count.number → is_pending t.order k ≡ true
+rivals_pending t p j a e s k m h is l =
     t.exact k
-    ∙ any_from (λ q. holds (record_in t q) k) t.count p l
+    ∙ any_from (λ q. holds (record_in t q) k) t.count.number p l
     (ap (λ (x : Record). holds x k) (sym is) ∙ rivals_hold e j a k (sym (m k) ∙ h))
 
 module _ (before after : List Record) (n p j : ℕ) (l : p < n) where

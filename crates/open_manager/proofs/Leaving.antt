@@ -25,11 +25,7 @@ left_none t gone none = record {
 
 -- a pair of jobs of which neither left, neither before nor then
 twice : (r gi gk hi hk : Bool) → ((r && (not gi && not gk)) && (not hi && not hk)) ≡ (r && (not (gi || hi) && not (gk || hk)))
-twice false gi gk hi hk = refl
-twice true true gk hi hk = refl
-twice true false false hi hk = refl
-twice true false true true hk = refl
-twice true false true false hk = refl
+twice r gi gk hi hk = grind (arith, nat_tests)
 
 pair_twice : (r s gi gk hi hk : Bool) {u ai ak : Bool} → s ≡ (r && (not gi && not gk)) → u ≡ (s && (not hi && not hk)) → ai ≡ (gi || hi) → ak ≡ (gk || hk)
     → u ≡ (r && (not ai && not ak))

@@ -5,6 +5,6 @@ pub mod Holding
 pub mod Leaving
 pub mod RollingBack
 pub mod Rolling
-pub mod Stored
+pub mod Writes
 pub mod Meanings
 pub mod OpenCalls

@@ -1,87 +1,33 @@
--- Facts about jobs listed in the order of their writes.
-use Rattle.std.proofs.Common.{◌≡◌, ℕ, zero, suc, ◌+◌, ◌<◌, ◌≤◌, Bool, true, false, cond, not, ◌&&◌, ◌||◌, ◌≢◌, ◌⊎◌, List, [], ◌∷◌, length, get_or, set, sym, refl, ap, ◌∙◌, subst, ap₂, inl, inr, arith}
-use Rattle.std.proofs.lemmas.List.{get_or-set_same, get_or-set_other, get_or_default}
-use Rattle.std.proofs.lemmas.Bool.{and_parts, cases_eq, cases_Bool, eq-eqb, ne_eqb}
+-- Facts about listed jobs.
+use Rattle.std.proofs.Common.{◌≡◌, ℕ, suc, ◌-◌, ◌<◌, ◌≤◌, Bool, true, false, not, ◌&&◌, ◌||◌, eqb, ◌⊎◌, List, [], ◌∷◌, ◌++◌, length, map, reverse, filter, slice_get, sym, refl, ap, ◌∙◌, inl, inr, arith}
+use Rattle.std.specs.List.{list_any}
+use Rattle.std.proofs.lemmas.List.Elements.{filter-append}
+use Rattle.std.proofs.lemmas.List.Folds.{list_any-append}
+use Rattle.std.proofs.lemmas.List.{map-append, reverse-append, append-nil, length-reverse, length-map}
+use Rattle.std.proofs.lemmas.Bool.{and_parts, cases_eq, eq-eqb, ne_eqb}
 use Rattle.std.proofs.lemmas.Bool.Decides.{nat_tests}
 use Rattle.jobs.specs.declared.job.Job.{Job}
 use Rattle.jobs.specs.Sets.{how_many}
+use Rattle.jobs.specs.Jobs.{number_in}
 use Rattle.jobs.proofs.Sets.{how_many_less, how_many_all}
-use Rattle.open_manager.specs.Lists.{first_job, last_first, last_first_none, among, distinct, leaving}
-
-last_first_more : (jobs : List Job) (n : ℕ) → last_first jobs (suc n) ≡ (get_or jobs n first_job).number ∷ last_first jobs n
-unfolding last_first
-last_first_more jobs n = refl
-
--- a place past those that count makes no difference
-last_first_set : (jobs : List Job) (n i : ℕ) (j : Job) → n ≤ i → last_first (set jobs i j) n ≡ last_first jobs n
-last_first_set jobs zero i j l = last_first_none (set jobs i j) ∙ sym (last_first_none jobs)
-last_first_set jobs (suc n) i j l =
-    let ne : n ≢ i = omega arith in
-    last_first_more (set jobs i j) n
-    ∙ ap₂ (λ (x : Job) (xs : List ℕ). x.number ∷ xs) (get_or-set_other jobs i n j first_job ne) (last_first_set jobs n i j (omega arith))
-    ∙ sym (last_first_more jobs n)
+use Rattle.open_manager.specs.Lists.{last_first, among, distinct, leaving, last_listed}
+use Rattle.open_manager.specs.Laws.{last_first_cons}
 
 -- one more at the end
-pub last_first_push : (jobs : List Job) (n : ℕ) (j : Job) → n < length jobs → last_first (set jobs n j) (n + 1) ≡ j.number ∷ last_first jobs n
-last_first_push jobs n j l =
-    let e : n + 1 ≡ suc n = omega arith in
-    ap (λ (k : ℕ). last_first (set jobs n j) k) e
-    ∙ last_first_more (set jobs n j) n
-    ∙ ap₂ (λ (x : Job) (xs : List ℕ). x.number ∷ xs) (get_or-set_same jobs n j first_job l) (last_first_set jobs n n j (omega arith))
+pub last_first_push : (jobs : List Job) (j : Job) → last_first (jobs ++ j ∷ []) ≡ j.number ∷ last_first jobs
+last_first_push jobs j =
+    ap reverse (map-append (λ (i : Job). i.number) jobs (j ∷ [])) ∙ reverse-append (map (λ (i : Job). i.number) jobs) (j.number ∷ [])
 
-pub length_last_first : (jobs : List Job) (n : ℕ) → length (last_first jobs n) ≡ n
-length_last_first jobs zero = ap length (last_first_none jobs)
-length_last_first jobs (suc n) = ap length (last_first_more jobs n) ∙ (let ih = length_last_first jobs n in omega arith)
-
--- whoever stands at place n is not among those before it
-not_before : (jobs : List Job) (n : ℕ) → distinct (last_first jobs (suc n)) ≡ true
-    → (among (last_first jobs n) (get_or jobs n first_job).number ≡ false) × (distinct (last_first jobs n) ≡ true)
-not_before jobs n h =
-    let p = and_parts (not (among (last_first jobs n) (get_or jobs n first_job).number)) (distinct (last_first jobs n))
-    (ap distinct (sym (last_first_more jobs n)) ∙ h) in
-    let x = p.0 in
-    (grind (arith, nat_tests), p.1)
-
--- the first i of n listed jobs are distinct too
-distinct_first : (jobs : List Job) (n i : ℕ) → i ≤ n → distinct (last_first jobs n) ≡ true → distinct (last_first jobs i) ≡ true
-distinct_first jobs zero i l h = let e : i ≡ 0 = omega arith in subst (λ (k : ℕ). distinct (last_first jobs k) ≡ true) (sym e) h
-distinct_first jobs (suc n) i l h = go (cases_eq i (suc n)) (λ m. distinct_first jobs n i m (not_before jobs n h).1)
-  where
-    go : (i ≡ suc n) ⊎ (i ≡ suc n → ⊥) → (i ≤ n → distinct (last_first jobs i) ≡ true) → distinct (last_first jobs i) ≡ true
-    go (inl e) ih = subst (λ (k : ℕ). distinct (last_first jobs k) ≡ true) (sym e) h
-    go (inr ne) ih = ih (omega arith)
-
--- only numbers of jobs are listed
-pub low_listed : (jobs : List Job) (n k : ℕ) → among (last_first jobs n) k ≡ true → k < 16
-low_listed jobs zero k h = absurd (let e = last_first_none jobs in let z : ◌≡◌ {A = ℕ} 0 1 = grind (arith, nat_tests) in omega arith)
-low_listed jobs (suc n) k h = go (cases_eq k (get_or jobs n first_job).number) (low_listed jobs n k)
-  where
-    at : among ((get_or jobs n first_job).number ∷ last_first jobs n) k ≡ true
-    at = ap (λ (js : List ℕ). among js k) (sym (last_first_more jobs n)) ∙ h
-
-    go : (k ≡ (get_or jobs n first_job).number) ⊎ (k ≡ (get_or jobs n first_job).number → ⊥) → (among (last_first jobs n) k ≡ true → k < 16) → k < 16
-    go (inl e) ih = let l = (get_or jobs n first_job).low in omega arith
-    go (inr ne) ih = let f = ne_eqb k (get_or jobs n first_job).number ne in ih (let x = at in grind (arith, nat_tests))
+pub length_listed : (jobs : List Job) → length (last_first jobs) ≡ length jobs
+length_listed jobs = length-reverse (map (λ j. j.number) jobs) ∙ length-map jobs (λ j. j.number)
 
 pub among_leaving : (gone : ℕ → Bool) (js : List ℕ) (k : ℕ) → among (leaving gone js) k ≡ (among js k && not (gone k))
 among_leaving gone [] k = grind (arith, nat_tests)
-among_leaving gone (j ∷ js) k = go (cases_Bool (gone j)) (cases_eq k j) (among_leaving gone js k)
-  where
-    go : (gone j ≡ true) ⊎ (gone j ≡ false) → (k ≡ j) ⊎ (k ≡ j → ⊥) → among (leaving gone js) k ≡ (among js k && not (gone k))
-        → among (leaving gone (j ∷ js)) k ≡ (among (j ∷ js) k && not (gone k))
-    go (inl t) (inl e) ih = let g : gone k ≡ true = ap gone e ∙ t in grind (arith, nat_tests)
-    go (inl t) (inr n) ih = let f = ne_eqb k j n in grind (arith, nat_tests)
-    go (inr t) (inl e) ih = let g : gone k ≡ false = ap gone e ∙ t in let f = eq-eqb k j e in grind (arith, nat_tests)
-    go (inr t) (inr n) ih = let f = ne_eqb k j n in grind (arith, nat_tests)
+among_leaving gone (j ∷ js) k = let ih = among_leaving gone js k in grind (arith, nat_tests)
 
 pub leaving_twice : (g h : ℕ → Bool) (js : List ℕ) → leaving h (leaving g js) ≡ leaving (λ k. g k || h k) js
 leaving_twice g h [] = refl
-leaving_twice g h (j ∷ js) = go (cases_Bool (g j)) (leaving_twice g h js)
-  where
-    go : (g j ≡ true) ⊎ (g j ≡ false) → leaving h (leaving g js) ≡ leaving (λ k. g k || h k) js
-        → leaving h (leaving g (j ∷ js)) ≡ leaving (λ k. g k || h k) (j ∷ js)
-    go (inl t) ih = grind (arith, nat_tests)
-    go (inr t) ih = grind (arith, nat_tests)
+leaving_twice g h (j ∷ js) = let ih = leaving_twice g h js in grind (arith, nat_tests)
 
 -- as many jobs are listed as places are taken
 counted : (js : List ℕ) → ((k : ℕ) → among js k ≡ true → k < 16) → distinct js ≡ true → length js ≤ how_many (among js) 16
@@ -107,31 +53,57 @@ room_for_one js j low h l out =
     at k (inl e) m = omega arith
     at k (inr n) m = let f = ne_eqb k j n in low k (grind (arith, nat_tests))
 
--- the list at the next place of the array, read with any default
-pub last_first_at : (jobs : List Job) (i : ℕ) (d : Job) → i < length jobs → last_first jobs (i + 1) ≡ (get_or jobs i d).number ∷ last_first jobs i
-last_first_at jobs i d l =
-    let e : i + 1 ≡ suc i = omega arith in
-    ap (λ (n : ℕ). last_first jobs n) e ∙ last_first_more jobs i
-    ∙ ap (λ (j : Job). j.number ∷ last_first jobs i) (get_or_default jobs i first_job d l)
-
--- those that stay, at the next place of the array
-pub leaving_next : (jobs : List Job) (i : ℕ) (d : Job) (gone : ℕ → Bool) → i < length jobs
-    → leaving gone (last_first jobs (i + 1))
-    ≡ cond (gone (get_or jobs i d).number) (leaving gone (last_first jobs i)) ((get_or jobs i d).number ∷ leaving gone (last_first jobs i))
-leaving_next jobs i d gone l = ap (leaving gone) (last_first_at jobs i d l)
-
--- the next one of distinct jobs is not among those that stayed so far
-pub leaving_new : (jobs : List Job) (n i : ℕ) (d : Job) → i < length jobs → i < n → distinct (last_first jobs n) ≡ true
-    → (gone : ℕ → Bool) (js : List ℕ) → js ≡ leaving gone (last_first jobs i) → among js (get_or jobs i d).number ≡ false
-leaving_new jobs n i d inside l once gone js e =
-    let out = (not_before jobs i (distinct_first jobs n (suc i) (omega arith) once)).0 in
-    let here : among (last_first jobs i) (get_or jobs i d).number ≡ false =
-    ap (λ (j : Job). among (last_first jobs i) j.number) (get_or_default jobs i d first_job inside) ∙ out in
-    ap (λ (xs : List ℕ). among xs (get_or jobs i d).number) e ∙ among_leaving gone (last_first jobs i) (get_or jobs i d).number
-    ∙ ap (λ (b : Bool). b && not (gone (get_or jobs i d).number)) here
-
 -- where nobody leaves, all stay
 pub leaving_none : (gone : ℕ → Bool) → ((k : ℕ) → gone k ≡ false) → (js : List ℕ) → leaving gone js ≡ js
 leaving_none gone none [] = refl
-leaving_none gone none (j ∷ js) =
-    ap (λ (b : Bool). cond b (leaving gone js) (j ∷ leaving gone js)) (none j) ∙ ap (λ (xs : List ℕ). j ∷ xs) (leaving_none gone none js)
+leaving_none gone none (j ∷ js) = let x = none j in let ih = leaving_none gone none js in grind (arith, nat_tests)
+
+-- those that stay
+pub last_first_filter : (gone : ℕ → Bool) (jobs : List Job)
+    → last_first (filter (λ j. not (gone j.number)) jobs) ≡ leaving gone (last_first jobs)
+last_first_filter gone [] = refl
+last_first_filter gone (j ∷ jobs) =
+    let ih = last_first_filter gone jobs in
+    let stays = last_first_cons j (filter (λ i. not (gone i.number)) jobs) in
+    let all = ap (leaving gone) (last_first_cons j jobs) ∙ filter-append (λ k. not (gone k)) (last_first jobs) (j.number ∷ []) in
+    let none = append-nil (leaving gone (last_first jobs)) in
+    grind (arith, nat_tests)
+
+-- still nobody is listed twice
+pub distinct_leaving : (gone : ℕ → Bool) (js : List ℕ) → distinct js ≡ true → distinct (leaving gone js) ≡ true
+distinct_leaving gone [] h = refl
+distinct_leaving gone (j ∷ js) h =
+    let p = and_parts (not (among js j)) (distinct js) h in
+    let x = p.0 in
+    let ih = distinct_leaving gone js p.1 in
+    let y = among_leaving gone js j in
+    grind (arith, nat_tests)
+
+-- all but one
+module _ (j : ℕ) (xs ys : List Job) (kept : ys ≡ filter (λ w. not (eqb w.number j)) xs) where
+  pub listed_kept : last_first ys ≡ leaving (λ k. eqb k j) (last_first xs)
+  listed_kept = ap last_first kept ∙ last_first_filter (λ k. eqb k j) xs
+
+  pub once_kept : distinct (last_first xs) ≡ true → distinct (last_first ys) ≡ true
+  once_kept h = ap distinct listed_kept ∙ distinct_leaving (λ k. eqb k j) (last_first xs) h
+
+pub contains_listed : (k : ℕ) (xs : List Job) → list_any (λ j. eqb j.number k) xs ≡ among (last_first xs) k
+contains_listed k [] = refl
+contains_listed k (j ∷ xs) =
+    let ih = contains_listed k xs in
+    let e = ap (λ (ns : List ℕ). among ns k) (last_first_cons j xs) ∙ list_any-append (λ i. eqb k i) (last_first xs) (j.number ∷ []) in
+    grind (arith, nat_tests)
+
+-- the last of some jobs is the first one listed
+pub last_is_first : (jobs : List Job) → number_in (slice_get jobs (length jobs - 1)) ≡ last_listed (last_first jobs)
+last_is_first [] = refl
+last_is_first (j ∷ []) = refl
+last_is_first (j ∷ i ∷ jobs) =
+    ap (λ (n : ℕ). number_in (slice_get (j ∷ i ∷ jobs) n)) (let e : length (j ∷ i ∷ jobs) - 1 ≡ suc (length (i ∷ jobs) - 1) = omega arith in e)
+    ∙ last_is_first (i ∷ jobs)
+    ∙ sym (ap last_listed (last_first_cons j (i ∷ jobs))
+    ∙ last_append (last_first (i ∷ jobs)) (j.number ∷ []) (let l = length_listed (i ∷ jobs) in omega arith))
+  where
+    last_append : (ks ms : List ℕ) → 0 < length ks → last_listed (ks ++ ms) ≡ last_listed ks
+    last_append [] ms h = absurd (let b : ⊥ = omega arith in b)
+    last_append (k ∷ ks) ms h = refl

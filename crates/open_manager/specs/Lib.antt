@@ -4,3 +4,4 @@ pub mod Records
 pub mod Order
 pub mod RollBack
 pub mod Open
+pub mod Laws

@@ -1,9 +1,12 @@
 -- How pending jobs are related, and which of them have voted.
-use Rattle.std.specs.Prelude.{◌≡◌, ℕ, Bool, false, not, ◌&&◌, ◌||◌, Option, ◌==◌}
+use Rattle.std.specs.Prelude.{◌≡◌, ℕ, Bool, false, not, ◌&&◌, ◌||◌, None, Option, ◌==◌}
 use Rattle.jobs.specs.declared.set.JobSet.{JobSet}
 use Rattle.jobs.specs.Sets.{names, lowest}
 use Rattle.jobs.specs.Jobs.{member, no_jobs}
 use Rattle.jobs.specs.Relations.{related}
+use Rattle.rules.specs.declared.fault.ManagerFault.{ManagerFault}
+use Rattle.rules.specs.declared.fault.ManagerFault.TheVariants.{ReadFrom, Ordered}
+use Rattle.managers.specs.Faults.{fault_by}
 use Rattle.open_manager.specs.declared.order.Order.{Order}
 
 abbrev pub precedes : Order → ℕ → ℕ → Bool
@@ -26,6 +29,10 @@ source_in o j = lowest (λ k. reads_from o j k) 16
 abbrev pub rival_in : Order → ℕ → Option ℕ
 rival_in o j = lowest (λ k. has_voted o k && (precedes o k j || precedes o j k)) 16
 
+-- why j cannot have the vote
+abbrev pub obstacle : Order → ℕ → Option ManagerFault
+obstacle o j = fault_by (source_in o j) ReadFrom (fault_by (rival_in o j) Ordered None)
+
 -- nobody is pending
 pub record Idle (o : Order) : Type 0 where
   pub precedes : (i k : ℕ) → precedes o i k ≡ false
@@ -33,25 +40,11 @@ pub record Idle (o : Order) : Type 0 where
   pub pending : o.pending ≡ no_jobs
   pub voted : o.voted ≡ no_jobs
 
--- j is pending, those of `earlier` precede it, and nothing else changed
-pub record WithAccess (o : Order) (j : ℕ) (earlier : JobSet) (r : Order) : Type 0 where
+-- j is pending, those of `earlier` precede it, it reads from the source if that is another job, and nothing else changed
+pub record WithAccess (o : Order) (j : ℕ) (earlier : JobSet) (source : Option ℕ) (r : Order) : Type 0 where
   pub precedes : (i k : ℕ) → precedes r i k ≡ (precedes o i k || (member earlier i && k == j))
-  pub reads_from : r.reads_from ≡ o.reads_from
-  pub pending : (k : ℕ) → is_pending r k ≡ (is_pending o k || k == j)
-  pub voted : r.voted ≡ o.voted
-
--- j reads from that job, where there is one and it is another, and nothing else changed
-pub record WithSource (o : Order) (j : ℕ) (source : Option ℕ) (r : Order) : Type 0 where
-  pub precedes : r.precedes ≡ o.precedes
   pub reads_from : (k i : ℕ) → reads_from r k i ≡ (reads_from o k i || (k == j && not (i == j) && names source i))
-  pub pending : r.pending ≡ o.pending
-  pub voted : r.voted ≡ o.voted
-
--- j reads from i, and nothing else changed
-pub record ReadsFrom (o : Order) (j i : ℕ) (r : Order) : Type 0 where
-  pub precedes : r.precedes ≡ o.precedes
-  pub reads_from : (k s : ℕ) → reads_from r k s ≡ (reads_from o k s || (k == j && s == i))
-  pub pending : r.pending ≡ o.pending
+  pub pending : (k : ℕ) → is_pending r k ≡ (is_pending o k || k == j)
   pub voted : r.voted ≡ o.voted
 
 -- j has voted, and nothing else changed

@@ -1,25 +1,17 @@
 -- What is pending at each parameter.
-use Rattle.std.specs.Prelude.{◌≡◌, ℕ, Bool, not, ◌&&◌, ◌||◌, List, [], ◌∷◌, replicate, ◌==◌, ◌≢◌, nat_eq, slice_index_or}
-use Rattle.std.proofs.Common.{ap, lit≤}
-use Rattle.std.proofs.lemmas.List.{length-replicate}
+use Rattle.std.specs.Prelude.{◌≡◌, ℕ, Bool, not, ◌&&◌, ◌||◌, List, [], ◌∷◌, ◌==◌, ◌≢◌, nat_eq, slice_index_or, refl}
 use Rattle.jobs.specs.Sets.{any_below}
 use Rattle.jobs.specs.Jobs.{member, no_jobs}
 use Rattle.rules.specs.declared.access.Access.{Access}
 use Rattle.rules.specs.Manager.{conflicts_among}
 use Rattle.open_manager.specs.declared.writers.Writers.{Writers}
 use Rattle.open_manager.specs.declared.records.Record.{Record}
-use Rattle.open_manager.specs.Lists.{first_job, last_first_none, among, distinct, leaving}
+use Rattle.open_manager.specs.Lists.{among, leaving}
 use Rattle.open_manager.specs.Writers.{listed}
 
 -- nobody writes
 abbrev pub no_writers : Writers
-no_writers = record {
-  jobs = replicate 16 first_job;
-  len = 0;
-  whole = length-replicate 16 first_job;
-  few = lit≤ tt;
-  once = ap distinct (last_first_none (replicate 16 first_job));
-}
+no_writers = record { jobs = record { items = [] }; once = refl }
 
 -- nobody reads or writes
 abbrev pub no_record : Record

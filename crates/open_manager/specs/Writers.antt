@@ -5,4 +5,4 @@ use Rattle.open_manager.specs.Lists.{last_first}
 
 -- their numbers, the job of the last write first
 abbrev pub listed : Writers → List ℕ
-listed w = last_first w.jobs w.len
+listed w = last_first w.jobs.items

@@ -1,39 +1,32 @@
 #![tactic(auto)]
 
-ghost use Rattle.std.specs.Prelude.{◌≡◌, ℕ, ◌*◌, ◌≤◌, vec_len};
+ghost use Rattle.std.specs.Prelude.{◌≡◌, ℕ};
 ghost use Rattle.jobs.specs.Jobs.{member};
 ghost use Rattle.open_manager.specs.Records.{holds_any};
 
-pub mod calls;
-pub mod manager;
 mod order;
 mod records;
 mod tables;
 mod writers;
 
-pub use calls::{
+pub use managers::calls::{
     commit_in, parameters_in, read_in, roll_back_in, set_up_in, settled_in, vote_in, write_in,
 };
+use managers::manager::TableManager;
+use managers::memory::Count;
 use order::Order;
 use records::Records;
+pub use tables::admits_every_conflict;
 
-// The tables of an open manager, free of the kind of value. A job is pending exactly if it has a pending access to some
-// parameter.
+// The tables of an open manager, which admits every conflicting access, and sorts matters out at the vote and at the commit.
+// A job is pending exactly if it has a pending access to some parameter.
 #[derive(Drop)]
 pub struct OpenTables {
-    count: u8,
+    count: Count,
     records: Records,
     order: Order,
-    ghost some: { 1 ≤ count },
-    ghost few: { count ≤ 64 },
-    ghost exact: { (k : ℕ) → member order.pending k ≡ holds_any records.entries count k },
+    ghost exact: { (k : ℕ) → member order.pending k ≡ holds_any records.entries count.number k },
 }
 
-// A manager that admits every conflicting access, and sorts matters out at the vote and at the commit. It keeps the
-// memory that is handed over for the values.
-#[derive(Drop)]
-pub struct OpenManager<V> {
-    tables: OpenTables,
-    memory: Vec<V>,
-    ghost room: { 32 * tables.count ≤ vec_len memory },
-}
+// A manager that admits every conflicting access.
+pub type OpenManager<V> = TableManager<OpenTables, V>;

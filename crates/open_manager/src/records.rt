@@ -6,13 +6,13 @@ use crate::writers::Writers;
 use jobs::set::JobSet;
 
 // What is pending at one parameter: who reads it, and who writes it in which order.
-#[derive(Clone, Copy)]
+#[derive(Drop)]
 pub(crate) struct Record {
     readers: JobSet,
     writers: Writers,
 }
 
-// The records of the parameters, by their numbers.
+// The records of the parameters, by their numbers. An array of as many as there can be, since a manager allocates nothing.
 #[derive(Drop)]
 pub(crate) struct Records {
     entries: [Record; 64],

@@ -1,27 +1,48 @@
-// What the tables of an open manager do by themselves.
+ghost use Rattle.std.specs.Prelude.{◌≡◌, ℕ, ◌<◌, ◌≤◌, Err, MatchResult, OnErr, ◌≢◌};
+ghost use Rattle.rules.specs.declared.fault.ManagerFault.TheVariants.{Conflict};
+ghost use Rattle.rules.specs.Calls.{Obeys, read_of, write_of};
+ghost use Rattle.open_manager.specs.Open.{record_in, admits_all, AdmitsEveryConflict, held_by};
+ghost use Rattle.open_manager.specs.Laws.{jobs_write};
 
-ghost use Rattle.std.specs.Prelude.{◌≡◌, ◌^◌, ◌<◌, ◌≤◌, false, Some, None, MatchResult, nat_eq};
-ghost use Rattle.jobs.specs.Jobs.{member};
-ghost use Rattle.open_manager.specs.Order.{reads_from, is_pending, has_voted, source_in, rival_in};
-ghost use Rattle.open_manager.specs.RollBack.{RolledBack};
-ghost use Rattle.open_manager.specs.Open.{access_fault, pending_fault, Unused, ReadNoted, WriteNoted, VoteNoted, Left};
-
-mod values;
+mod leaving;
 
 use crate::OpenTables;
 use crate::order::Order;
-use crate::records::Records;
+use crate::records::{Record, Records};
 use jobs::job::Job;
 use jobs::set::JobSet;
+use managers::memory::Count;
+use managers::tables::Tables;
 use rules::access::Access;
 use rules::fault::ManagerFault;
 
+// No access is stopped at an open manager, whichever others it conflicts with, since all of these are admitted. Computes
+// nothing: its contract is the theorem.
+pub fn admits_every_conflict<V>()
+    ensures { AdmitsEveryConflict V }
+{}
+
 impl OpenTables {
-    // Tables for that many parameters, which nobody has accessed.
-    fn new(count: u8) -> OpenTables
-        requires { (1 ≤ count) × (count ≤ 64) }
-        ensures { Unused result count }
+    // The record of the parameter, which is refused where it is not there.
+    fn found(&self, parameter: u8) -> Result<&Record, ManagerFault>
+        ensures { MatchResult result (λ r. (parameter < self.now.count.number) × (r.now ≡ record_in self.now parameter)) (λ f. (self.now.count.number ≤ parameter) × (f ≡ ManagerFault.NoParameter)) }
     {
+        match self.records.get(parameter) {
+            Some(record) if parameter < self.count.number() => Ok(record),
+            _ => Err(ManagerFault::NoParameter),
+        }
+    }
+}
+
+impl Tables for OpenTables {
+    ghost meaning = { held_by };
+
+    ghost admits = { λ t. admits_all };
+
+    ghost jobs_write = { jobs_write };
+
+    #[tactic(auto, using(crate::proofs::Holding::holds_none, jobs::proofs::Jobs::member_none))]
+    fn new(count: Count) -> OpenTables {
         OpenTables {
             count,
             records: Records::new(),
@@ -29,101 +50,70 @@ impl OpenTables {
         }
     }
 
-    // The job of that number, if it may access the parameter.
-    fn accessing_job(&self, job: u8, parameter: u8) -> Result<Job, ManagerFault>
-        ensures { MatchResult result (λ j. (j.number ≡ job) × (access_fault self.now job parameter ≡ None)) (λ f. access_fault self.now job parameter ≡ Some f) }
-    {
-        let Some(job) = Job::new(job) else {
-            return Err(ManagerFault::NoJob);
-        };
-        if parameter >= self.count {
-            return Err(ManagerFault::NoParameter);
-        }
-        if self.order.has_voted(job) {
-            return Err(ManagerFault::Voted);
-        }
-        Ok(job)
+    fn parameters(&self) -> u8 {
+        self.count.number()
     }
 
-    // The job of that number, if it is pending.
-    fn pending_job(&self, job: u8) -> Result<Job, ManagerFault>
-        ensures { MatchResult result (λ j. (j.number ≡ job) × (pending_fault self.now job ≡ None)) (λ f. pending_fault self.now job ≡ Some f) }
-    {
-        let Some(job) = Job::new(job) else {
-            return Err(ManagerFault::NoJob);
-        };
-        if !self.order.is_pending(job) {
-            return Err(ManagerFault::NotPending);
-        }
-        Ok(job)
+    #[tactic(auto, using(crate::proofs::Meanings::pending_is))]
+    fn is_pending(&self, job: Job) -> bool {
+        self.order.is_pending(job)
     }
 
-    // The job has read the parameter: those that write it precede the job, which reads from the last of them.
-    fn note_read(&mut self, parameter: u8, job: Job)
-        requires inside { parameter < self.old.count }
-        requires unvoted { has_voted self.old.order job.number ≡ false }
-        ensures { ReadNoted self.old parameter job.number self.new }
+    fn has_voted(&self, job: Job) -> bool {
+        self.order.has_voted(job)
+    }
+
+    fn last_writer(&self, parameter: u8) -> Option<Job> {
+        self.records.get(parameter)?.last_writer()
+    }
+
+    fn is_writer(&self, parameter: u8, job: Job) -> bool {
+        self.records
+            .get(parameter)
+            .is_some_and(|record| record.is_writer(job))
+    }
+
+    // Those that write the parameter precede the job from now on, and it reads from the last of them.
+    #[tactic(auto, using(crate::proofs::Holding::holds_read))]
+    fn read(&mut self, job: Job, parameter: u8) -> Result<(), ManagerFault>
+        ensures follows_the_rules { Obeys (read_of admits_all (held_by self.old) job.number parameter) result (held_by self.new) }
+        ensures refusal_changes_nothing { OnErr result (self.new ≡ self.old) }
+        ensures admits_every_conflict { (k : ℕ) → result ≢ Err (Conflict k) }
     {
-        let entry = self.records.at(parameter);
-        let writing = entry.conflicts(job, Access::Read);
-        let order = self.order.with_access(job, writing);
-        self.order = order.with_source(job, entry.last_writer());
+        let record = self.found(parameter)?;
+        let writing = record.conflicts(job, Access::Read);
+        let source = record.last_writer();
+        self.order = self.order.with_access(job, writing, source)?;
         self.records.note_reader(parameter, job);
+        Ok(())
     }
 
-    // The job has written the parameter: those that read or write it precede the job.
-    fn note_write(&mut self, parameter: u8, job: Job)
-        requires inside { parameter < self.old.count }
-        requires unvoted { has_voted self.old.order job.number ≡ false }
-        ensures { WriteNoted self.old parameter job.number self.new }
+    // Those that read or write the parameter precede the job from now on.
+    #[tactic(auto, using(crate::proofs::Holding::holds_write))]
+    fn write(&mut self, job: Job, parameter: u8) -> Result<(), ManagerFault>
+        ensures follows_the_rules { Obeys (write_of admits_all (held_by self.old) job.number parameter tt) result (held_by self.new) }
+        ensures refusal_changes_nothing { OnErr result (self.new ≡ self.old) }
+        ensures admits_every_conflict { (k : ℕ) → result ≢ Err (Conflict k) }
     {
-        let accessing = self.records.at(parameter).conflicts(job, Access::Write);
-        self.order = self.order.with_access(job, accessing);
+        let accessing = self.found(parameter)?.conflicts(job, Access::Write);
+        self.order = self.order.with_access(job, accessing, None)?;
         self.records.note_writer(parameter, job);
+        Ok(())
     }
 
-    // The job has the manager's vote.
-    fn note_vote(&mut self, job: Job)
-        requires free { source_in self.old.order job.number ≡ None }
-        requires apart { rival_in self.old.order job.number ≡ None }
-        ensures { VoteNoted self.old job.number self.new }
-    {
-        self.order = self.order.with_vote(job);
+    fn vote(&mut self, job: Job) -> Result<(), ManagerFault> {
+        self.order = self.order.with_vote(job)?;
+        Ok(())
     }
 
-    // The job leaves every record, both relations and both sets.
-    fn leave(&mut self, job: Job)
-        ensures { Left self.old (λ k. nat_eq k job.number) self.new }
-    {
-        self.order = self.order.without(job);
-        self.records.leave(job);
-    }
-
-    // Rolls the job back if it is still pending, and then each that read from it. Tells who was rolled back.
-    #[cycle(roll_back_each_roll_back_one)]
-    fn roll_back_one(&mut self, job: Job) -> JobSet
-        ensures left { Left self.old (member result) self.new }
-        ensures gone { RolledBack (λ k. nat_eq k job.number) (reads_from self.old.order) (is_pending self.old.order) (member result) }
-    {
-        if !self.order.is_pending(job) {
-            return JobSet::empty();
-        }
-        let readers = self.order.readers_of(job);
+    // Those that precede the job are rolled back, each with whoever read from it, and then the job leaves.
+    fn commit(&mut self, job: Job) -> JobSet {
+        let lost = self.roll_back_each(self.order.ahead_of(job));
         self.leave(job);
-        self.roll_back_each(readers).insert(job)
+        lost
     }
 
-    // Rolls each of the jobs back that is still pending, such as the readers of one that was. Tells who was rolled back.
-    #[cycle(roll_back_each_roll_back_one)]
-    fn roll_back_each(&mut self, jobs: JobSet) -> JobSet
-        ensures left { Left self.old (member result) self.new }
-        ensures gone { RolledBack (member jobs) (reads_from self.old.order) (is_pending self.old.order) (member result) }
-        ensures fits { result.bits < 2 ^ 16 }
-    {
-        let mut gone = JobSet::empty();
-        for job in jobs.members() {
-            gone = gone.union(self.roll_back_one(job));
-        }
-        gone
+    fn roll_back(&mut self, job: Job) -> JobSet {
+        self.roll_back_one(job).remove(job)
     }
 }

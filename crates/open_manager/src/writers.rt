@@ -1,16 +1,14 @@
-ghost use Rattle.std.specs.Prelude.{◌≡◌, ◌≤◌, true, length};
+ghost use Rattle.std.specs.Prelude.{◌≡◌, true};
 ghost use Rattle.open_manager.specs.Lists.{last_first, distinct};
 
 mod list;
 
+use arrayvec::ArrayVec;
 use jobs::job::Job;
 
-// The jobs with a pending write of a parameter, in the order of their writes, each once. The first `len` places count.
-#[derive(Clone, Copy)]
+// The jobs with a pending write of a parameter, in the order of their writes, each once.
+#[derive(Drop)]
 pub(crate) struct Writers {
-    jobs: [Job; 16],
-    len: u8,
-    ghost whole: { length jobs ≡ 16 },
-    ghost few: { len ≤ 16 },
-    ghost once: { distinct (last_first jobs len) ≡ true },
+    jobs: ArrayVec<Job, 16>,
+    ghost once: { distinct (last_first jobs.items) ≡ true },
 }

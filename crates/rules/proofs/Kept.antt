@@ -1,10 +1,11 @@
 -- What holds of a manager still holds after a call, if it does where the call gets past its refusals.
 use Rattle.std.proofs.Common.{◌≡◌, ℕ, ◌<◌, Bool, true, false, not, leb, Some, None, Option, refl}
+use Rattle.std.specs.List.{slice_get}
 use Rattle.std.proofs.lemmas.Bool.{leb-false, not-false}
 use Rattle.rules.specs.declared.access.Access.{Access}
 use Rattle.rules.specs.declared.fault.ManagerFault.{ManagerFault}
 use Rattle.rules.specs.declared.fault.ManagerFault.TheVariants.{NoJob, Voted, NotPending, Conflict}
-use Rattle.rules.specs.Manager.{Manager, value_at, pending}
+use Rattle.rules.specs.Manager.{Manager, pending}
 use Rattle.rules.specs.Calls.{Answered, Admits, refuse_if, refuse_by, refuse_unless, stops, access_of, pending_of}
 
 module _ {A V : Type 0} (P : Manager V → Type 0) where
@@ -22,11 +23,11 @@ module _ {A V : Type 0} (P : Manager V → Type 0) where
 
   -- past all refusals of an access
   pub kept_access : (admits : Admits) (m : Manager V) (j p : ℕ) (a : Access) (x : V → Answered A V) → P m
-      → ((v : V) → j < 16 → value_at m.settled p ≡ Some v → m.voted j ≡ false → stops admits m j p a ≡ None → P (x v).1)
+      → ((v : V) → j < 16 → slice_get m.settled p ≡ Some v → m.voted j ≡ false → stops admits m j p a ≡ None → P (x v).1)
       → P (access_of admits m j p a x).1
   kept_access admits m j p a x h past =
       kept_if (leb 16 j) NoJob m _ h (λ low.
-      kept_unless (value_at m.settled p) m _ h (λ v at.
+      kept_unless (slice_get m.settled p) m _ h (λ v at.
       kept_if (m.voted j) Voted m _ h (λ n.
       kept_by (stops admits m j p a) Conflict m _ h (λ free.
       past v (leb-false 16 j low) at n free))))

@@ -1,5 +1,6 @@
 -- Every call keeps what holds of every manager.
 use Rattle.std.proofs.Common.{◌≡◌, ℕ, ◌<◌, Bool, true, false, not, ◌&&◌, ◌||◌, eqb, List, length, None, sym, refl, ◌∙◌, arith}
+use Rattle.std.proofs.lemmas.Option.{slice_get_within}
 use Rattle.std.proofs.lemmas.Bool.Decides.{nat_tests}
 use Rattle.jobs.proofs.Sets.{any_none, lowest_none}
 use Rattle.rules.specs.declared.access.Access.{Access}
@@ -11,7 +12,6 @@ use Rattle.rules.specs.Calls.{source_of, rival_of}
 use Rattle.rules.specs.Sound.{Sound, StaysSound}
 use Rattle.rules.proofs.Kept.{kept_if, kept_by, kept_access, kept_pending}
 use Rattle.rules.proofs.Pending.{pending_read, pending_write, pending_settle, pending_leave, conflict_pending, last_pending}
-use Rattle.rules.proofs.Values.{value_below}
 
 module _ {V : Type 0} where
   sound_fresh : (start : List V) → Sound (fresh start)
@@ -144,10 +144,10 @@ module _ {V : Type 0} where
     when_fresh = sound_fresh;
     after_read = λ admits m j p s.
         kept_access Sound admits m j p Read _ s (λ v job at free _.
-        sound_read m j p job (value_below m.settled p v at) free s);
+        sound_read m j p job (slice_get_within m.settled p v at) free s);
     after_write = λ admits m j p v s.
         kept_access Sound admits m j p Write _ s (λ u job at free _.
-        sound_write m j p job (value_below m.settled p u at) free v s);
+        sound_write m j p job (slice_get_within m.settled p u at) free v s);
     after_vote = λ m j s.
         kept_pending Sound m j _ s (λ _ here.
         kept_if Sound (m.voted j) VotedAlready m _ s (λ _.

@@ -1,5 +1,6 @@
 -- The calls of a manager: each from what it holds and the arguments to the answer and what it holds afterwards.
-use Rattle.std.specs.Prelude.{◌≡◌, ℕ, Bool, cond, not, ◌&&◌, ◌||◌, Some, None, Ok, Err, Option, Result, nat_le}
+use Rattle.std.specs.Prelude.{◌≡◌, ℕ, Bool, if◌then◌else◌, not, ◌&&◌, ◌||◌, Some, None, Ok, Err, Option, Result, nat_le}
+use Rattle.std.specs.List.{slice_get}
 use Rattle.jobs.specs.declared.set.JobSet.{JobSet}
 use Rattle.jobs.specs.Sets.{lowest}
 use Rattle.jobs.specs.Jobs.{jobs_where}
@@ -7,7 +8,7 @@ use Rattle.rules.specs.declared.access.Access.{Access}
 use Rattle.rules.specs.declared.access.Access.TheVariants.{Read, Write}
 use Rattle.rules.specs.declared.fault.ManagerFault.{ManagerFault}
 use Rattle.rules.specs.declared.fault.ManagerFault.TheVariants.{NoJob, NoParameter, Voted, NotVoted, NotPending, VotedAlready, Conflict, ReadFrom, Ordered}
-use Rattle.rules.specs.Manager.{Manager, value_at, last_or, pending, conflict_of}
+use Rattle.rules.specs.Manager.{Manager, last_or, pending, conflict_of}
 use Rattle.rules.specs.Changes.{read, write, vote, settle, leave_with, lost_to_commit, lost_to_roll_back}
 
 -- an answer, and what is held afterwards
@@ -21,7 +22,7 @@ Admits = ℕ → ℕ → Access → Bool
 module _ {A V : Type 0} where
   -- refused where the test holds, and nothing changes
   abbrev pub refuse_if : Bool → ManagerFault → Manager V → Answered A V → Answered A V
-  refuse_if b f m x = cond b (Err f, m) x
+  refuse_if b f m x = if b then (Err f, m) else x
 
   -- refused where some job is in the way, and nothing changes
   abbrev pub refuse_by : Option ℕ → (ℕ → ManagerFault) → Manager V → Answered A V → Answered A V
@@ -36,7 +37,7 @@ module _ {A V : Type 0} where
 module _ {V : Type 0} where
   -- the job in the way of an access: the lowest with which it conflicts, unless the access is admitted all the same
   abbrev pub stops : Admits → Manager V → ℕ → ℕ → Access → Option ℕ
-  stops admits m j p a = elim (conflict_of m j p a) [ None ↦ None | Some k ↦ cond (admits j p a) None (Some k) ]
+  stops admits m j p a = elim (conflict_of m j p a) [ None ↦ None | Some k ↦ if admits j p a then None else Some k ]
 
   -- the lowest job that j read from
   abbrev pub source_of : Manager V → ℕ → Option ℕ
@@ -50,7 +51,7 @@ module _ {V : Type 0} where
   abbrev pub access_of : {A : Type 0} → Admits → Manager V → ℕ → ℕ → Access → (V → Answered A V) → Answered A V
   access_of admits m j p a x =
       refuse_if (nat_le 16 j) NoJob m
-      (refuse_unless (value_at m.settled p) m (λ v.
+      (refuse_unless (slice_get m.settled p) m (λ v.
       refuse_if (m.voted j) Voted m
       (refuse_by (stops admits m j p a) Conflict m
       (x v))))
@@ -89,7 +90,7 @@ module _ {V : Type 0} where
 
   -- the settled value of a parameter; a question, so nothing changes
   abbrev pub settled_of : Manager V → ℕ → Result V ManagerFault
-  settled_of m p = elim (value_at m.settled p) [ None ↦ Err NoParameter | Some v ↦ Ok v ]
+  settled_of m p = elim (slice_get m.settled p) [ None ↦ Err NoParameter | Some v ↦ Ok v ]
 
 -- a call was answered, and left what the manager holds, as the rule says
 pub record Obeys {A V : Type 0} (rule : Answered A V) (r : Result A ManagerFault) (m : Manager V) : Type 0 where

@@ -1,9 +1,10 @@
 -- What each accepted operation does to what a manager holds.
-use Rattle.std.specs.Prelude.{ℕ, suc, Bool, cond, not, ◌&&◌, ◌||◌, List, [], ◌∷◌, ◌==◌, nat_eq}
+use Rattle.std.specs.Prelude.{ℕ, suc, Bool, if◌then◌else◌, not, ◌&&◌, ◌||◌, List, [], ◌∷◌, ◌==◌, nat_eq}
+use Rattle.std.specs.Option.{unwrap_or}
 use Rattle.jobs.specs.Sets.{names}
 use Rattle.rules.specs.declared.access.Access.{Access}
 use Rattle.rules.specs.declared.access.Access.TheVariants.{Read, Write}
-use Rattle.rules.specs.Manager.{Manager, Writes, write_by, or_else, last_writer, without, conflicts}
+use Rattle.rules.specs.Manager.{Manager, Writes, write_by, last_writer, without, conflicts}
 use Rattle.rules.specs.Cascade.{goes}
 
 module _ {V : Type 0} where
@@ -26,7 +27,7 @@ module _ {V : Type 0} where
   abbrev pub write : ℕ → ℕ → V → Manager V → Manager V
   write j p v m = record {
     settled = m.settled;
-    writes = λ q. cond (q == p) ((j, v) ∷ without (λ k. nat_eq k j) (m.writes p)) (m.writes q);
+    writes = λ q. if q == p then (j, v) ∷ without (λ k. nat_eq k j) (m.writes p) else m.writes q;
     readers = m.readers;
     precedes = ordered m j p Write;
     reads_from = m.reads_from;
@@ -46,7 +47,7 @@ module _ {V : Type 0} where
   -- the settled values from parameter p on, once j's pending writes are settled
   abbrev pub settled_from : ℕ → (ℕ → Writes V) → ℕ → List V → List V
   settled_from j writes p [] = []
-  settled_from j writes p (v ∷ vs) = or_else (write_by j (writes p)) v ∷ settled_from j writes (suc p) vs
+  settled_from j writes p (v ∷ vs) = unwrap_or (write_by j (writes p)) v ∷ settled_from j writes (suc p) vs
 
   -- the pending writes of j become settled values
   abbrev pub settle : ℕ → Manager V → Manager V

@@ -1,5 +1,5 @@
 -- What a resource manager means, whichever kind it is: what it holds, and what is read off that.
-use Rattle.std.specs.Prelude.{ℕ, zero, suc, Bool, false, cond, not, ◌&&◌, ◌||◌, List, [], ◌∷◌, length, is_some, Some, None, Option, ◌==◌}
+use Rattle.std.specs.Prelude.{ℕ, Bool, false, if◌then◌else◌, not, ◌&&◌, ◌||◌, List, [], ◌∷◌, length, is_some, Some, None, Option, ◌==◌}
 use Rattle.jobs.specs.Sets.{lowest, any_below}
 use Rattle.rules.specs.declared.access.Access.{Access}
 use Rattle.rules.specs.declared.access.Access.TheVariants.{Read, Write}
@@ -35,16 +35,10 @@ module _ {V : Type 0} where
     voted = λ j. false;
   }
 
-  -- the value at a place of a list, where there is one
-  abbrev pub value_at : List V → ℕ → Option V
-  value_at [] p = None
-  value_at (v ∷ vs) zero = Some v
-  value_at (v ∷ vs) (suc p) = value_at vs p
-
   -- the value of j's pending write among those of a parameter
   abbrev pub write_by : ℕ → Writes V → Option V
   write_by j [] = None
-  write_by j (w ∷ ws) = cond (j == w.0) (Some w.1) (write_by j ws)
+  write_by j (w ∷ ws) = if j == w.0 then Some w.1 else write_by j ws
 
   -- does j have a pending write among those of a parameter
   abbrev pub wrote : ℕ → Writes V → Bool
@@ -60,15 +54,10 @@ module _ {V : Type 0} where
   last_or v [] = v
   last_or v (w ∷ ws) = w.1
 
-  -- that value, or v where there is none
-  abbrev pub or_else : Option V → V → V
-  or_else None v = v
-  or_else (Some w) v = w
-
   -- the pending writes of a parameter once the jobs of `gone` have left
   abbrev pub without : (ℕ → Bool) → Writes V → Writes V
   without gone [] = []
-  without gone (w ∷ ws) = cond (gone w.0) (without gone ws) (w ∷ without gone ws)
+  without gone (w ∷ ws) = if gone w.0 then without gone ws else w ∷ without gone ws
 
   -- does j have a pending access to parameter p
   abbrev pub accesses : Manager V → ℕ → ℕ → Bool

@@ -1,16 +1,17 @@
 -- The calls that no manager takes.
 use Rattle.std.proofs.Common.{◌≡◌, ℕ, zero, suc, ◌≤◌, List, [], ◌∷◌, length, None, Option, IfSome, Err, Result, refl, ap, ◌∙◌, subst, arith}
+use Rattle.std.specs.List.{slice_get}
 use Rattle.std.specs.Io.KnownBytes.{Appends}
 use Rattle.rules.specs.declared.fault.ManagerFault.{ManagerFault}
 use Rattle.rules.specs.declared.fault.ManagerFault.TheVariants.{NoJob, NoParameter, NotPending}
-use Rattle.rules.specs.Manager.{Manager, value_at}
+use Rattle.rules.specs.Manager.{Manager}
 use Rattle.rules.specs.Calls.{Admits, Answered, write_of, vote_of}
 use Rattle.telling.specs.Lines.{Tells, read_line, write_line, vote_line}
 use Rattle.telling.specs.Scenes.{IsIdle, refusal_lines}
 use Rattle.telling.proofs.Written.{then_told}
 
 module _ {V : Type 0} where
-  value_past : (xs : List V) (i : ℕ) → length xs ≤ i → value_at xs i ≡ None
+  value_past : (xs : List V) (i : ℕ) → length xs ≤ i → slice_get xs i ≡ None
   value_past [] i h = refl
   value_past (x ∷ xs) zero h = absurd (let b : ⊥ = omega arith in b)
   value_past (x ∷ xs) (suc i) h = value_past xs i (omega arith)

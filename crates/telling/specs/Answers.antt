@@ -1,5 +1,5 @@
 -- How the answer of a manager's call is told.
-use Rattle.std.specs.Prelude.{ℕ, zero, suc, Bool, cond, List, [], ◌++◌, Some, Option, Ok, Err, Result, codes, decimal}
+use Rattle.std.specs.Prelude.{ℕ, zero, suc, Bool, if◌then◌else◌, List, [], ◌++◌, Some, Option, Ok, Err, Result, codes, decimal}
 use Rattle.std.specs.Fmt.{◌++?◌}
 use Rattle.jobs.specs.declared.set.JobSet.{JobSet}
 use Rattle.jobs.specs.Sets.{any_below}
@@ -18,11 +18,11 @@ value_words text v = Some (codes "value ") ++? text v
 -- the numbers below n that pass the test, in rising order, each after a space
 unfoldable pub spaced : (ℕ → Bool) → ℕ → List ℕ
 spaced f zero = []
-spaced f (suc n) = spaced f n ++ cond (f n) (codes " " ++ decimal n) []
+spaced f (suc n) = spaced f n ++ (if f n then codes " " ++ decimal n else [])
 
 -- the jobs that a call lost
 abbrev pub lost_words : JobSet → Option (List ℕ)
-lost_words s = Some (codes "lost" ++ cond (any_below (member s) 16) (spaced (member s) 16) (codes " none"))
+lost_words s = Some (codes "lost" ++ (if any_below (member s) 16 then spaced (member s) 16 else codes " none"))
 
 -- an answer, where `text` says how it is told, or else the refusal
 abbrev pub told : {A : Type 0} → (A → Option (List ℕ)) → Result A ManagerFault → Option (List ℕ)

@@ -1,20 +1,25 @@
-ghost use Rattle.std.specs.Prelude.{◌≡◌, ℕ, ◌*◌, ◌<◌, ◌≤◌, true, ◌++◌, length, drop, Some, None, MatchResult, OnErr, slice_set};
+ghost use Rattle.std.specs.Prelude.{◌≡◌, ℕ, ◌<◌, true, is_ok, None, MatchResult, OnErr};
 ghost use Rattle.jobs.specs.Sets.{lowest};
 ghost use Rattle.jobs.specs.Jobs.{member, number_in};
-ghost use Rattle.rules.specs.Manager.{fresh, value_at, last_or};
-ghost use Rattle.rules.specs.Calls.{Obeys, read_of, write_of, vote_of, commit_of, roll_back_of, settled_of};
-ghost use Rattle.managers.specs.Memory.{place, can_set_up, Settles};
-ghost use Rattle.managers.specs.Locking.{lock_at, no_lock, is_writer, holds, rivals, Unused, access_fault, pending_in, pending_fault, ReaderNoted, WriterNoted, VoteNoted, LeftOf, JobLeft, meaning_of, admits_none};
-
-pub mod calls;
-pub mod manager;
+ghost use Rattle.rules.specs.declared.access.Access.TheVariants.{Read, Write};
+ghost use Rattle.rules.specs.Manager.{conflict_of};
+ghost use Rattle.rules.specs.Calls.{Obeys, read_of, write_of};
+ghost use Rattle.managers.specs.Locking.{no_lock, is_writer, holds, rivals, access_fault, ReaderNoted, WriterNoted, LeftOf, JobLeft, held_by, admits_none, AdmitsNoConflict};
+ghost use Rattle.managers.specs.LockLaws.{jobs_write};
 
 use crate::locking::{Lock, Locks};
-use crate::memory::place_of;
+use crate::memory::Count;
+use crate::tables::Tables;
 use jobs::job::Job;
 use jobs::set::JobSet;
 use rules::access::Access;
 use rules::fault::ManagerFault;
+
+// A locking manager accepts no access that conflicts with another job's pending access, since none of these is admitted.
+// Computes nothing: its contract is the theorem.
+pub fn admits_no_conflict<V>()
+    ensures { AdmitsNoConflict V }
+{}
 
 impl Lock {
     fn new() -> Lock
@@ -30,20 +35,14 @@ impl Lock {
     fn is_writer(self, job: Job) -> bool
         ensures { result ≡ is_writer self job.number }
     {
-        match self.writer {
-            Some(writer) => job.number() == writer.number(),
-            None => false,
-        }
+        self.writer == Some(job)
     }
 
     // The jobs with a pending write: one or none.
     fn writers(self) -> JobSet
         ensures { (k : ℕ) → member result k ≡ is_writer self k }
     {
-        match self.writer {
-            Some(writer) => JobSet::of(writer),
-            None => JobSet::empty(),
-        }
+        self.writer.map_or_else(JobSet::empty, JobSet::of)
     }
 
     // Whether the job has a pending access.
@@ -68,25 +67,68 @@ impl Lock {
     fn without(self, job: Job) -> Lock
         ensures { LeftOf self job.number result }
     {
-        let writer = if self.is_writer(job) {
-            None
-        } else {
-            self.writer
-        };
         Lock {
             readers: self.readers.remove(job),
-            writer,
+            writer: self.writer.filter(|writer| *writer != job),
         }
     }
 }
 
-// The tables alone.
 impl Locks {
-    // Tables for that many parameters, which nobody has accessed.
-    fn new(count: u8) -> Locks
-        requires { (1 ≤ count) × (count ≤ 64) }
-        ensures { Unused result count }
+    // Refuses the job if it may not access the parameter so.
+    fn admit(&self, job: Job, parameter: u8, access: Access) -> Result<(), ManagerFault>
+        ensures { MatchResult result (λ _. access_fault self.now job.number parameter access ≡ None) (λ f. access_fault self.now job.number parameter access ≡ Some f) }
     {
+        if parameter >= self.count.number() {
+            return Err(ManagerFault::NoParameter);
+        }
+        if self.voted.contains(job) {
+            return Err(ManagerFault::Voted);
+        }
+        // a match says plainly that somebody is a refusal, and nobody none
+        match self.locks[usize::from(parameter)].conflict(job, access) {
+            Some(rival) => Err(ManagerFault::Conflict(rival.number())),
+            None => Ok(()),
+        }
+    }
+
+    // The job becomes a pending reader of the parameter.
+    fn note_reader(&mut self, parameter: u8, job: Job)
+        requires { parameter < self.old.count.number }
+        ensures { ReaderNoted self.old parameter job.number self.new }
+    {
+        // indexed twice: a lock that is borrowed as `&mut self.locks[i]` gets no proof here
+        let i = usize::from(parameter);
+        self.locks[i].readers = self.locks[i].readers.insert(job);
+    }
+
+    // The job gets the pending write of the parameter.
+    fn note_writer(&mut self, parameter: u8, job: Job)
+        requires { parameter < self.old.count.number }
+        ensures { WriterNoted self.old parameter job self.new }
+    {
+        self.locks[usize::from(parameter)].writer = Some(job);
+    }
+
+    // The job leaves every lock and the votes.
+    fn leave(&mut self, job: Job)
+        ensures { JobLeft self.old job.number self.new }
+    {
+        for lock in &mut self.locks {
+            *lock = lock.without(job);
+        }
+        self.voted = self.voted.remove(job);
+    }
+}
+
+impl Tables for Locks {
+    ghost meaning = { held_by };
+
+    ghost admits = { λ t. admits_none };
+
+    ghost jobs_write = { jobs_write };
+
+    fn new(count: Count) -> Locks {
         Locks {
             count,
             locks: [Lock::new(); 64],
@@ -94,205 +136,66 @@ impl Locks {
         }
     }
 
-    // The job of that number, if it may access the parameter so.
-    fn admit(&self, job: u8, parameter: u8, access: Access) -> Result<Job, ManagerFault>
-        ensures { MatchResult result (λ j. (j.number ≡ job) × (access_fault self.now job parameter access ≡ None)) (λ f. access_fault self.now job parameter access ≡ Some f) }
-    {
-        let Some(job) = Job::new(job) else {
-            return Err(ManagerFault::NoJob);
-        };
-        if parameter >= self.count {
-            return Err(ManagerFault::NoParameter);
-        }
-        if self.voted.contains(job) {
-            return Err(ManagerFault::Voted);
-        }
-        match self.locks[parameter as usize].conflict(job, access) {
-            Some(rival) => Err(ManagerFault::Conflict(rival.number())),
-            None => Ok(job),
-        }
+    fn parameters(&self) -> u8 {
+        self.count.number()
     }
 
-    // Whether the job has a pending access to any parameter.
-    fn pending(&self, job: Job) -> bool
-        ensures { result ≡ pending_in self.now job.number }
-    {
-        for p in 0..self.count {
-            if self.locks[p as usize].holds(job) {
-                return true;
-            }
-        }
-        false
+    fn is_pending(&self, job: Job) -> bool {
+        self.locks
+            .iter()
+            .take(usize::from(self.count.number()))
+            .any(|lock| lock.holds(job))
     }
 
-    // The job of that number, if it is pending.
-    fn pending_job(&self, job: u8) -> Result<Job, ManagerFault>
-        ensures { MatchResult result (λ j. (j.number ≡ job) × (pending_fault self.now job ≡ None)) (λ f. pending_fault self.now job ≡ Some f) }
-    {
-        let Some(job) = Job::new(job) else {
-            return Err(ManagerFault::NoJob);
-        };
-        if !self.pending(job) {
-            return Err(ManagerFault::NotPending);
-        }
-        Ok(job)
+    fn has_voted(&self, job: Job) -> bool {
+        self.voted.contains(job)
     }
 
-    // The job becomes a pending reader of the parameter.
-    fn note_reader(&mut self, parameter: u8, job: Job)
-        requires { parameter < self.old.count }
-        ensures { ReaderNoted self.old parameter job.number self.new }
-    {
-        let i = parameter as usize;
-        self.locks[i].readers = self.locks[i].readers.insert(job);
+    fn last_writer(&self, parameter: u8) -> Option<Job> {
+        self.locks.get(usize::from(parameter))?.writer
     }
 
-    // The job gets the pending write of the parameter.
-    fn note_writer(&mut self, parameter: u8, job: Job)
-        requires { parameter < self.old.count }
-        ensures { WriterNoted self.old parameter job self.new }
-    {
-        self.locks[parameter as usize].writer = Some(job);
+    fn is_writer(&self, parameter: u8, job: Job) -> bool {
+        self.locks
+            .get(usize::from(parameter))
+            .is_some_and(|lock| lock.is_writer(job))
     }
 
-    // The job has the manager's vote.
-    fn note_vote(&mut self, job: Job)
-        ensures { VoteNoted self.old job.number self.new }
-    {
-        self.voted = self.voted.insert(job);
-    }
-
-    // The job leaves every set.
-    fn leave(&mut self, job: Job)
-        ensures { JobLeft self.old job.number self.new }
-    {
-        for lock in self.locks.iter_mut() {
-            *lock = lock.without(job);
-        }
-        self.voted = self.voted.remove(job);
-    }
-}
-
-// The tables together with the memory that belongs to them, which is large enough. A vote and a roll back leave the
-// memory alone; it is passed for what the tables mean with it.
-impl Locks {
-    // Unused tables for the starting values, which become the settled ones in memory.
-    fn set_up<V: Copy>(values: &mut [V], starting: &[V]) -> Locks
-        requires { can_set_up (length starting.now) (length values.old) ≡ true }
-        ensures fresh { meaning_of result values.new ≡ fresh starting.now }
-        ensures count { result.count ≡ length starting.now }
-        ensures memory { values.new ≡ starting.now ++ drop (length starting.now) values.old }
-    {
-        let count = starting.len();
-        values[0..count].copy_from_slice(starting);
-        Locks::new(count as u8)
-    }
-
-    fn settled<V: Copy>(&self, values: &[V], parameter: u8) -> Result<V, ManagerFault>
-        requires { 32 * self.now.count ≤ length values.now }
-        ensures { result ≡ settled_of (meaning_of self.now values.now) parameter }
-    {
-        if parameter >= self.count {
-            return Err(ManagerFault::NoParameter);
-        }
-        Ok(values[parameter as usize])
-    }
-
-    // What a read of the parameter answers: the value at the writer's place, or the settled value where nobody writes it.
-    fn last_value<V: Copy>(&self, values: &[V], parameter: u8) -> V
-        requires { (parameter < self.now.count) × (32 * self.now.count ≤ length values.now) }
-        ensures { (v : V) → value_at values.now parameter ≡ Some v → result ≡ last_or v ((meaning_of self.now values.now).writes parameter) }
-    {
-        let lock = self.locks[parameter as usize];
-        match lock.writer {
-            Some(writer) => values[place_of(self.count, parameter, writer)],
-            None => values[parameter as usize],
-        }
-    }
-
-    fn read<V: Copy>(&mut self, values: &[V], job: u8, parameter: u8) -> Result<V, ManagerFault>
-        requires { 32 * self.old.count ≤ length values.now }
-        ensures follows_the_rules { Obeys (read_of admits_none (meaning_of self.old values.now) job parameter) result (meaning_of self.new values.now) }
+    fn read(&mut self, job: Job, parameter: u8) -> Result<(), ManagerFault>
+        ensures follows_the_rules { Obeys (read_of admits_none (held_by self.old) job.number parameter) result (held_by self.new) }
         ensures refusal_changes_nothing { OnErr result (self.new ≡ self.old) }
-        ensures count_stays { self.new.count ≡ self.old.count }
+        ensures admits_no_conflict { is_ok result ≡ true → conflict_of (held_by self.old) job.number parameter Read ≡ None }
     {
-        let job = self.admit(job, parameter, Access::Read)?;
-        let value = self.last_value(values, parameter);
+        self.admit(job, parameter, Access::Read)?;
         self.note_reader(parameter, job);
-        Ok(value)
+        Ok(())
     }
 
-    fn write<V: Copy>(
-        &mut self,
-        values: &mut [V],
-        job: u8,
-        parameter: u8,
-        value: V,
-    ) -> Result<(), ManagerFault>
-        requires { 32 * self.old.count ≤ length values.old }
-        ensures follows_the_rules { Obeys (write_of admits_none (meaning_of self.old values.old) job parameter value) result (meaning_of self.new values.new) }
-        ensures refusal_changes_nothing { OnErr result ((self.new ≡ self.old) × (values.new ≡ values.old)) }
-        ensures memory { MatchResult result (λ _. values.new ≡ slice_set values.old (place self.old.count parameter job) value) (λ _. values.new ≡ values.old) }
-        ensures count_stays { self.new.count ≡ self.old.count }
+    fn write(&mut self, job: Job, parameter: u8) -> Result<(), ManagerFault>
+        ensures follows_the_rules { Obeys (write_of admits_none (held_by self.old) job.number parameter tt) result (held_by self.new) }
+        ensures refusal_changes_nothing { OnErr result (self.new ≡ self.old) }
+        ensures admits_no_conflict { is_ok result ≡ true → conflict_of (held_by self.old) job.number parameter Write ≡ None }
     {
-        let job = self.admit(job, parameter, Access::Write)?;
-        values[place_of(self.count, parameter, job)] = value;
+        self.admit(job, parameter, Access::Write)?;
         self.note_writer(parameter, job);
         Ok(())
     }
 
-    fn vote<V: Copy>(&mut self, _values: &[V], job: u8) -> Result<(), ManagerFault>
-        requires { 32 * self.old.count ≤ length _values.now }
-        ensures follows_the_rules { Obeys (vote_of (meaning_of self.old _values.now) job) result (meaning_of self.new _values.now) }
-        ensures refusal_changes_nothing { OnErr result (self.new ≡ self.old) }
-        ensures count_stays { self.new.count ≡ self.old.count }
-    {
-        let job = self.pending_job(job)?;
-        if self.voted.contains(job) {
-            return Err(ManagerFault::VotedAlready);
-        }
-        self.note_vote(job);
+    // Nobody precedes the job, and it read from nobody, so nobody is in the way.
+    fn vote(&mut self, job: Job) -> Result<(), ManagerFault> {
+        self.voted = self.voted.insert(job);
         Ok(())
     }
 
-    // The pending writes of the job become settled values.
-    fn settle<V: Copy>(&self, values: &mut [V], job: Job)
-        requires { 32 * self.now.count ≤ length values.old }
-        ensures { Settles (λ p. is_writer (lock_at self.now.locks p) job.number) self.now.count job.number values.old values.new }
-    {
-        for p in 0..self.count {
-            if self.locks[p as usize].is_writer(job) {
-                values[p as usize] = values[place_of(self.count, p, job)];
-            }
-        }
+    // Nobody precedes the committed job, so nobody is lost.
+    fn commit(&mut self, job: Job) -> JobSet {
+        self.leave(job);
+        JobSet::empty()
     }
 
-    // No job precedes the committed one, so nobody is lost.
-    fn commit<V: Copy>(&mut self, values: &mut [V], job: u8) -> Result<JobSet, ManagerFault>
-        requires { 32 * self.old.count ≤ length values.old }
-        ensures follows_the_rules { Obeys (commit_of (meaning_of self.old values.old) job) result (meaning_of self.new values.new) }
-        ensures refusal_changes_nothing { OnErr result ((self.new ≡ self.old) × (values.new ≡ values.old)) }
-        ensures memory { MatchResult result (λ _. Settles (λ p. is_writer (lock_at self.old.locks p) job) self.old.count job values.old values.new) (λ _. values.new ≡ values.old) }
-        ensures count_stays { self.new.count ≡ self.old.count }
-    {
-        let job = self.pending_job(job)?;
-        if !self.voted.contains(job) {
-            return Err(ManagerFault::NotVoted);
-        }
-        self.settle(values, job);
+    // Nobody read from the job rolled back, so nobody else is lost.
+    fn roll_back(&mut self, job: Job) -> JobSet {
         self.leave(job);
-        Ok(JobSet::empty())
-    }
-
-    // No job read from the one rolled back, so nobody else is lost.
-    fn roll_back<V: Copy>(&mut self, _values: &[V], job: u8) -> Result<JobSet, ManagerFault>
-        requires { 32 * self.old.count ≤ length _values.now }
-        ensures follows_the_rules { Obeys (roll_back_of (meaning_of self.old _values.now) job) result (meaning_of self.new _values.now) }
-        ensures refusal_changes_nothing { OnErr result (self.new ≡ self.old) }
-        ensures count_stays { self.new.count ≡ self.old.count }
-    {
-        let job = self.pending_job(job)?;
-        self.leave(job);
-        Ok(JobSet::empty())
+        JobSet::empty()
     }
 }

@@ -1,11 +1,10 @@
 // The changes of the order between jobs. Each takes it by value and gives the new one back.
 
-ghost use Rattle.std.specs.Prelude.{◌≡◌, ℕ, true, false, ◌&&◌, ◌||◌, None, ◌==◌};
+ghost use Rattle.std.specs.Prelude.{◌≡◌, ℕ, true, false, not, ◌&&◌, ◌||◌, None, Some, ◌==◌, MatchResult};
+ghost use Rattle.jobs.specs.Sets.{names};
 ghost use Rattle.jobs.specs.Jobs.{member, number_in};
 ghost use Rattle.jobs.specs.Relations.{related};
-ghost use Rattle.rules.specs.declared.fault.ManagerFault.TheVariants.{ReadFrom, Ordered};
-ghost use Rattle.managers.specs.Faults.{fault_by};
-ghost use Rattle.open_manager.specs.Order.{precedes, reads_from, is_pending, has_voted, source_in, rival_in, Idle, WithAccess, WithSource, ReadsFrom, WithVote, WithoutJob};
+ghost use Rattle.open_manager.specs.Order.{precedes, reads_from, is_pending, has_voted, source_in, rival_in, obstacle, Idle, WithAccess, WithVote, WithoutJob};
 
 use crate::order::Order;
 use jobs::job::Job;
@@ -61,19 +60,6 @@ impl Order {
         self.voted.intersection(self.in_order_with(job)).lowest()
     }
 
-    // Why the job cannot have the vote: it read from a pending job, or stands in an order with a voted one.
-    pub(crate) fn obstacle(self, job: Job) -> Option<ManagerFault>
-        ensures { result ≡ fault_by (source_in self job.number) ReadFrom (fault_by (rival_in self job.number) Ordered None) }
-    {
-        if let Some(source) = self.source(job) {
-            return Some(ManagerFault::ReadFrom(source.number()));
-        }
-        match self.rival(job) {
-            Some(rival) => Some(ManagerFault::Ordered(rival.number())),
-            None => None,
-        }
-    }
-
     // Those that precede the job.
     pub(crate) fn ahead_of(self, job: Job) -> JobSet
         ensures { (k : ℕ) → member result k ≡ precedes self k job.number }
@@ -88,65 +74,55 @@ impl Order {
         self.reads_from.predecessors(job)
     }
 
-    // With an access of the job, which those of `earlier` precede from now on.
-    pub(crate) fn with_access(self, job: Job, earlier: JobSet) -> Order
-        requires unvoted { has_voted self job.number ≡ false }
+    // With an access of the job, which those of `earlier` precede from now on, and which reads from `source` if that is
+    // another job. Refused where the job has voted.
+    pub(crate) fn with_access(
+        self,
+        job: Job,
+        earlier: JobSet,
+        source: Option<Job>,
+    ) -> Result<Order, ManagerFault>
         requires others { member earlier job.number ≡ false }
         requires pending { (k : ℕ) → member earlier k ≡ true → is_pending self k ≡ true }
-        ensures { WithAccess self job.number earlier result }
+        ensures { MatchResult result (λ r. (has_voted self job.number ≡ false) × WithAccess self job.number earlier (number_in source) r) (λ f. (has_voted self job.number ≡ true) × (f ≡ ManagerFault.Voted)) }
     {
-        Order {
+        if self.has_voted(job) {
+            return Err(ManagerFault::Voted);
+        }
+        Ok(Order {
             precedes: self.precedes.with_edges(earlier, job),
-            reads_from: self.reads_from,
+            reads_from: self.reading_from(job, source),
             pending: self.pending.insert(job),
             voted: self.voted,
+        })
+    }
+
+    // The relation with a read by the job from the source, unless that is the job itself or nobody.
+    fn reading_from(self, job: Job, source: Option<Job>) -> Relation
+        ensures { (k i : ℕ) → related result k i ≡ (reads_from self k i || (k == job.number && not (i == job.number) && names (number_in source) i)) }
+    {
+        match source.filter(|other| *other != job) {
+            Some(other) => self.reads_from.with_edges(JobSet::of(job), other),
+            None => self.reads_from,
         }
     }
 
-    // With a read by the job from the source, unless that is the job itself or nobody.
-    pub(crate) fn with_source(self, job: Job, source: Option<Job>) -> Order
-        requires unvoted { has_voted self job.number ≡ false }
-        requires pending { is_pending self job.number ≡ true }
-        ensures { WithSource self job.number (number_in source) result }
+    // With the vote for the job. Refused where it read from a pending job, or stands in an order with a voted one.
+    pub(crate) fn with_vote(self, job: Job) -> Result<Order, ManagerFault>
+        ensures { MatchResult result (λ r. (obstacle self job.number ≡ None) × WithVote self job.number r) (λ f. obstacle self job.number ≡ Some f) }
     {
-        match source {
-            Some(other) if other.number() != job.number() => self.with_read_from(job, other),
-            _ => self,
+        if let Some(source) = self.source(job) {
+            return Err(ManagerFault::ReadFrom(source.number()));
         }
-    }
-
-    // The relation with a read by the job from the source.
-    fn reading_from(self, job: Job, source: Job) -> Relation
-        ensures { (k i : ℕ) → related result k i ≡ (reads_from self k i || (k == job.number && i == source.number)) }
-    {
-        self.reads_from.with_edges(JobSet::of(job), source)
-    }
-
-    fn with_read_from(self, job: Job, source: Job) -> Order
-        requires unvoted { has_voted self job.number ≡ false }
-        requires pending { is_pending self job.number ≡ true }
-        ensures { ReadsFrom self job.number source.number result }
-    {
-        Order {
-            precedes: self.precedes,
-            reads_from: self.reading_from(job, source),
-            pending: self.pending,
-            voted: self.voted,
+        if let Some(rival) = self.rival(job) {
+            return Err(ManagerFault::Ordered(rival.number()));
         }
-    }
-
-    // With the vote for the job, which nothing is in the way of.
-    pub(crate) fn with_vote(self, job: Job) -> Order
-        requires free { source_in self job.number ≡ None }
-        requires apart { rival_in self job.number ≡ None }
-        ensures { WithVote self job.number result }
-    {
-        Order {
+        Ok(Order {
             precedes: self.precedes,
             reads_from: self.reads_from,
             pending: self.pending,
             voted: self.voted.insert(job),
-        }
+        })
     }
 
     // Without the job.

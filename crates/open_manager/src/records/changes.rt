@@ -1,4 +1,4 @@
-ghost use Rattle.std.specs.Prelude.{◌≡◌, ℕ, ◌<◌};
+ghost use Rattle.std.specs.Prelude.{◌≡◌, ℕ, ◌<◌, ◌≤◌, MatchOption};
 ghost use Rattle.jobs.specs.Jobs.{member, number_in};
 ghost use Rattle.open_manager.specs.Lists.{among, last_listed};
 ghost use Rattle.open_manager.specs.Writers.{listed};
@@ -9,6 +9,7 @@ use crate::writers::Writers;
 use jobs::job::Job;
 use jobs::set::JobSet;
 use rules::access::Access;
+use std::array;
 
 impl Record {
     fn new() -> Record
@@ -16,27 +17,27 @@ impl Record {
     {
         Record {
             readers: JobSet::empty(),
-            writers: Writers::none(),
+            writers: Writers::new(),
         }
     }
 
     // The job of the last pending write, if there is one.
-    pub(crate) fn last_writer(self) -> Option<Job>
-        ensures { number_in result ≡ last_listed (listed self.writers) }
+    pub(crate) fn last_writer(&self) -> Option<Job>
+        ensures { number_in result ≡ last_listed (listed self.now.writers) }
     {
         self.writers.last()
     }
 
     // Whether the job has a pending write.
-    pub(crate) fn is_writer(self, job: Job) -> bool
-        ensures { result ≡ among (listed self.writers) job.number }
+    pub(crate) fn is_writer(&self, job: Job) -> bool
+        ensures { result ≡ among (listed self.now.writers) job.number }
     {
-        self.writers.jobs().contains(job)
+        self.writers.contains(job)
     }
 
     // The jobs with which such an access of the job conflicts.
-    pub(crate) fn conflicts(self, job: Job, access: Access) -> JobSet
-        ensures { (k : ℕ) → member result k ≡ rivals self job.number access k }
+    pub(crate) fn conflicts(&self, job: Job, access: Access) -> JobSet
+        ensures { (k : ℕ) → member result k ≡ rivals self.now job.number access k }
     {
         let holders = match access {
             Access::Read => self.writers.jobs(),
@@ -45,34 +46,26 @@ impl Record {
         holders.remove(job)
     }
 
-    // With the job as a reader.
-    fn with_reader(self, job: Job) -> Record
-        ensures { WithReader self job.number result }
+    // The job becomes a reader.
+    fn add_reader(&mut self, job: Job)
+        ensures { WithReader self.old job.number self.new }
     {
-        Record {
-            readers: self.readers.insert(job),
-            writers: self.writers,
-        }
+        self.readers = self.readers.insert(job);
     }
 
-    // With a write of the job after all others.
-    fn with_writer(self, job: Job) -> Record
-        ensures { WithWriter self job.number result }
+    // The last write is the job's.
+    fn add_writer(&mut self, job: Job)
+        ensures { WithWriter self.old job.number self.new }
     {
-        Record {
-            readers: self.readers,
-            writers: self.writers.with(job),
-        }
+        self.writers.push(job);
     }
 
-    // Without the accesses of the job.
-    fn without(self, job: Job) -> Record
-        ensures { WithoutJob self job.number result }
+    // The accesses of the job go.
+    fn remove(&mut self, job: Job)
+        ensures { WithoutJob self.old job.number self.new }
     {
-        Record {
-            readers: self.readers.remove(job),
-            writers: self.writers.without(job),
-        }
+        self.readers = self.readers.remove(job);
+        self.writers.remove(job);
     }
 }
 
@@ -82,34 +75,31 @@ impl Records {
         ensures { (p : ℕ) → Unused (record_at result.entries p) }
     {
         Records {
-            entries: [Record::new(); 64],
+            entries: array::from_fn(|_| Record::new()),
         }
     }
 
-    // The record of the parameter.
-    pub(crate) fn at(&self, parameter: u8) -> Record
-        requires { parameter < 64 }
-        ensures { result ≡ record_at self.now.entries parameter }
+    // The record of the parameter, unless the table ends before it.
+    pub(crate) fn get(&self, parameter: u8) -> Option<&Record>
+        ensures { MatchOption result (64 ≤ parameter) (λ r. r.now ≡ record_at self.now.entries parameter) }
     {
-        self.entries[parameter as usize]
+        self.entries.get(usize::from(parameter))
     }
 
-    // The job becomes a pending reader of the parameter.
+    // The job becomes a pending reader of the parameter, which is in the table, so that there is a record to write to.
     pub(crate) fn note_reader(&mut self, parameter: u8, job: Job)
         requires { parameter < 64 }
         ensures { ReaderNoted self.old.entries parameter job.number self.new.entries }
     {
-        let i = parameter as usize;
-        self.entries[i] = self.entries[i].with_reader(job);
+        self.entries[usize::from(parameter)].add_reader(job);
     }
 
-    // The last pending write of the parameter is the job's.
+    // The last pending write of the parameter, which is in the table, is the job's.
     pub(crate) fn note_writer(&mut self, parameter: u8, job: Job)
         requires { parameter < 64 }
         ensures { WriterNoted self.old.entries parameter job.number self.new.entries }
     {
-        let i = parameter as usize;
-        self.entries[i] = self.entries[i].with_writer(job);
+        self.entries[usize::from(parameter)].add_writer(job);
     }
 
     // The accesses of the job go.
@@ -117,7 +107,7 @@ impl Records {
         ensures { JobLeft self.old.entries job.number self.new.entries }
     {
         for entry in self.entries.iter_mut() {
-            *entry = entry.without(job);
+            entry.remove(job);
         }
     }
 }

@@ -1,77 +1,60 @@
-ghost use Rattle.std.specs.Prelude.{◌≡◌, ℕ, ◌+◌, ◌<◌, false, [], ◌∷◌, nat_eq};
+ghost use Rattle.std.specs.Prelude.{◌≡◌, ℕ, [], ◌∷◌, nat_eq};
 ghost use Rattle.jobs.specs.Jobs.{member, number_in};
 ghost use Rattle.open_manager.specs.Lists.{among, leaving, last_listed};
 ghost use Rattle.open_manager.specs.Writers.{listed};
 
 use crate::writers::Writers;
+use arrayvec::ArrayVec;
 use jobs::job::Job;
 use jobs::set::JobSet;
 
 impl Writers {
     // Nobody writes.
-    pub(crate) fn none() -> Writers
+    pub(crate) fn new() -> Writers
         ensures { listed result ≡ [] }
     {
         Writers {
-            jobs: [Job::FIRST; 16],
-            len: 0,
+            jobs: ArrayVec::new(),
         }
     }
 
     // The job of the last write, if there is one.
-    pub(crate) fn last(self) -> Option<Job>
-        ensures { number_in result ≡ last_listed (listed self) }
+    pub(crate) fn last(&self) -> Option<Job>
+        ensures { number_in result ≡ last_listed (listed self.now) }
     {
-        if self.len == 0 {
-            return None;
-        }
-        Some(self.jobs[self.len as usize - 1])
+        self.jobs.last().copied()
+    }
+
+    // Whether the job is among them.
+    pub(crate) fn contains(&self, job: Job) -> bool
+        ensures { result ≡ among (listed self.now) job.number }
+    {
+        self.jobs.contains(&job)
     }
 
     // All of them.
-    pub(crate) fn jobs(self) -> JobSet
-        ensures { (k : ℕ) → member result k ≡ among (listed self) k }
+    pub(crate) fn jobs(&self) -> JobSet
+        ensures { (k : ℕ) → member result k ≡ among (listed self.now) k }
     {
         let mut found = JobSet::empty();
-        for i in 0..self.len {
-            found = found.insert(self.jobs[i as usize]);
+        for job in self.jobs.iter() {
+            found = found.insert(*job);
         }
         found
     }
 
-    // With a job that is not among them, after all others.
-    fn push(self, job: Job) -> Writers
-        requires room { self.len < 16 }
-        requires new { among (listed self) job.number ≡ false }
-        ensures jobs { listed result ≡ job.number ∷ listed self }
-        ensures len { result.len ≡ self.len + 1 }
+    // The write of the job goes.
+    pub(crate) fn remove(&mut self, job: Job)
+        ensures { listed self.new ≡ leaving (λ k. nat_eq k job.number) (listed self.old) }
     {
-        let mut jobs = self.jobs;
-        jobs[self.len as usize] = job;
-        Writers {
-            jobs,
-            len: self.len + 1,
-        }
+        self.jobs.retain(|writer| *writer != job);
     }
 
-    // Without that job.
-    pub(crate) fn without(self, job: Job) -> Writers
-        ensures { listed result ≡ leaving (λ k. nat_eq k job.number) (listed self) }
+    // The last write is the job's; its earlier one goes.
+    pub(crate) fn push(&mut self, job: Job)
+        ensures { listed self.new ≡ job.number ∷ leaving (λ k. nat_eq k job.number) (listed self.old) }
     {
-        let mut others = Writers::none();
-        for i in 0..self.len {
-            let writer = self.jobs[i as usize];
-            if writer.number() != job.number() {
-                others = others.push(writer);
-            }
-        }
-        others
-    }
-
-    // With a write of that job after all others; its earlier one goes.
-    pub(crate) fn with(self, job: Job) -> Writers
-        ensures { listed result ≡ job.number ∷ leaving (λ k. nat_eq k job.number) (listed self) }
-    {
-        self.without(job).push(job)
+        self.remove(job);
+        self.jobs.push(job);
     }
 }

@@ -1,6 +1,5 @@
 use Rattle.std.proofs.Common.{◌≡◌, ℕ, ◌+◌, ◌*◌, ◌<◌, eqb, sym, ap, ◌∙◌, subst, arith}
 use Rattle.std.proofs.lemmas.Bool.Decides.{nat_tests}
-use Rattle.std.proofs.lemmas.Bool.{eqb-true}
 use Rattle.jobs.specs.declared.set.JobSet.{JobSet}
 use Rattle.jobs.specs.declared.members.Members.{Members}
 use Rattle.jobs.specs.Sets.{how_many}
@@ -10,20 +9,12 @@ use Rattle.open_manager.specs.declared.OpenTables.{OpenTables}
 use Rattle.open_manager.specs.Order.{reads_from, is_pending}
 use Rattle.open_manager.specs.RollBack.{RolledBack}
 use Rattle.open_manager.proofs.Leaving.{left_none, left_twice, left_fewer, left_less}
-use Rattle.open_manager.proofs.RollingBack.{rolled_none, rolled_one}
+use Rattle.open_manager.proofs.RollingBack.{rolled_one}
 use Rattle.open_manager.proofs.Rolling.{rolling_none, rolling_more, rolling_all}
 use Rattle.open_manager.proofs.OpenTables.+roll_back_each_roll_back_one.Goals as goal
 
-pub roll_back_one-returns-then-not-is_pending : goal.roll_back_one-returns-then-not-is_pending
-roll_back_one-returns-then-not-is_pending t c =
-    let a : OpenTables = c.args.self.now in
-    let none = c.empty.ensures.members in
-    let away = c.if-not-is_pending.ensures in
-    record {
-      left = left_none a _ none;
-      gone = rolled_none (reads_from a.order) (is_pending a.order) _ _
-          (λ k h p. let e = eqb-true k c.args.job.number h in let z : ◌≡◌ {A = ℕ} 0 1 = grind (arith, nat_tests) in omega arith) none;
-    }
+pub roll_back_one-returns-then-not-is_pending-clause-left : goal.roll_back_one-returns-then-not-is_pending-clause-left
+roll_back_one-returns-then-not-is_pending-clause-left t c = left_none c.args.self.now _ c.empty.ensures.members
 
 pub roll_back_one-roll_back_each-requires : goal.roll_back_one-roll_back_each-requires
 roll_back_one-roll_back_each-requires t c =

@@ -9,7 +9,7 @@ pub loop-entry-preserved : goal.loop-entry-preserved
 loop-entry-preserved c =
     let long : c.loop-entry.entry-index < length c.loop-entry.entry-items =
     omega (arith, c.loop-entry.invariant.0, c.args.self.now.whole) in
-    walked_more no_record (λ (a b : Record). WithoutJob a c.args.job.number b) _ _ _ c.entry-item.result _ long c.loop-entry.invariant c.without.ensures
+    walked_more no_record (λ (a b : Record). WithoutJob a c.args.job.number b) _ _ _ c.entry-item.result _ long c.loop-entry.invariant c.remove.ensures
 
 pub returns : goal.returns
 returns c =

@@ -1,0 +1,6 @@
+use Rattle.std.proofs.Common.{rules}
+use Rattle.managers.proofs.LockCalls.{leaves_alone}
+use Rattle.managers.proofs.locking.tables.LocksTables.roll_back.Goals as goal
+
+pub returns : goal.returns
+returns c = search (rules, leaves_alone)
