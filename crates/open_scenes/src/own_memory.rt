@@ -6,7 +6,8 @@ use open_manager::{
 use std::fmt::Display;
 use std::io;
 use std::io::Write;
-use telling::lines::{tell_commit, tell_read, tell_roll_back, tell_settled, tell_vote, tell_write};
+use telling::answers::{Done, Lost, Value};
+use telling::lines::{Call, tell};
 
 // Job 0 writes parameter 1, and job 1 reads it and is rolled back before job 0 is committed.
 fn share<V: Copy + Display, W: Write>(
@@ -15,12 +16,27 @@ fn share<V: Copy + Display, W: Write>(
     values: &mut [V],
     wanted: V,
 ) -> io::Result<()> {
-    tell_write(out, 0, 1, wanted, write_in(tables, values, 0, 1, wanted))?;
-    tell_read(out, 1, 1, read_in(tables, values, 1, 1))?;
-    tell_roll_back(out, 1, roll_back_in(tables, values, 1))?;
-    tell_vote(out, 0, vote_in(tables, values, 0))?;
-    tell_commit(out, 0, commit_in(tables, values, 0))?;
-    tell_settled(out, 1, settled_in(tables, values, 1))
+    let answer = write_in(tables, values, 0, 1, wanted).map(|()| Done);
+    let call = Call::Write {
+        job: 0,
+        parameter: 1,
+        value: wanted,
+    };
+    tell(out, call, answer)?;
+    let answer = read_in(tables, values, 1, 1).map(Value);
+    let call = Call::<V>::Read {
+        job: 1,
+        parameter: 1,
+    };
+    tell(out, call, answer)?;
+    let answer = roll_back_in(tables, values, 1).map(Lost);
+    tell(out, Call::<V>::RollBack { job: 1 }, answer)?;
+    let answer = vote_in(tables, values, 0).map(|()| Done);
+    tell(out, Call::<V>::Vote { job: 0 }, answer)?;
+    let answer = commit_in(tables, values, 0).map(Lost);
+    tell(out, Call::<V>::Commit { job: 0 }, answer)?;
+    let answer = settled_in(tables, values, 1).map(Value);
+    tell(out, Call::<V>::Settled { parameter: 1 }, answer)
 }
 
 // Sets tables up in that memory, and plays the scene there; too little memory is refused.

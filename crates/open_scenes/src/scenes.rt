@@ -1,12 +1,11 @@
 // Scenes at a drive's parameters, told call by call.
 
-use anyhow::anyhow;
 use managers::interface::ResourceManager;
 use open_manager::OpenManager;
 use std::fmt::Display;
 use std::io;
 use std::io::Write;
-use telling::scenes::{PARAMETERS, ROOM, refusals};
+use telling::scenes::{fresh_teller, refusals};
 use telling::teller::Teller;
 
 // Job 1 reads what job 0 has not committed yet, and so has to wait for it.
@@ -57,13 +56,7 @@ pub fn play_open<V: Copy + Display>(
     first: V,
     second: V,
 ) -> anyhow::Result<()> {
-    let memory = vec![in rt.alloc(); starting; ROOM]?;
-    let made = OpenManager::new(memory, &[starting; PARAMETERS]);
-    let drive = made.map_err(|_| anyhow!("no room for the drive's values"))?;
-    let mut teller = Teller {
-        out: io::writer(rt),
-        drive,
-    };
+    let mut teller: Teller<_, OpenManager<V>> = fresh_teller(rt.alloc(), io::writer(rt), starting)?;
     reading_early(&mut teller, first)?;
     overtaken(&mut teller, second)?;
     cascade(&mut teller, first, second)?;

@@ -1,12 +1,11 @@
 #![tactic(auto)]
 
-use anyhow::anyhow;
 use managers::interface::ResourceManager;
 use managers::locking::LockingManager;
 use std::fmt::Display;
 use std::io;
 use std::io::Write;
-use telling::scenes::{PARAMETERS, ROOM, refusals};
+use telling::scenes::{ROOM, fresh_teller, refusals};
 use telling::teller::Teller;
 use values::mode::Mode;
 
@@ -49,13 +48,11 @@ fn play<V: Copy + Display>(
     first: V,
     second: V,
 ) -> anyhow::Result<()> {
-    let memory = vec![in rt.alloc(); starting; ROOM]?;
-    let made = LockingManager::new(memory, &[starting; PARAMETERS]);
-    let drive = made.map_err(|_| anyhow!("no room for the drive's values"))?;
-    let mut teller = Teller {
-        out: io::writer(rt),
-        drive,
-    };
+    let mut teller: Teller<_, LockingManager<V>> = fresh_teller(
+        rt.alloc(),
+        io::writer(rt),
+        starting,
+    )?;
     rivals(&mut teller, first, second)?;
     rival_again(&mut teller, second)?;
     refusals(&mut teller, first)?;

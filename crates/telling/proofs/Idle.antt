@@ -6,7 +6,9 @@ use Rattle.rules.specs.declared.fault.ManagerFault.{ManagerFault}
 use Rattle.rules.specs.declared.fault.ManagerFault.TheVariants.{NoJob, NoParameter, NotPending}
 use Rattle.rules.specs.Manager.{Manager}
 use Rattle.rules.specs.Calls.{Admits, Answered, write_of, vote_of}
-use Rattle.telling.specs.Lines.{Tells, read_line, write_line, vote_line}
+use Rattle.telling.specs.declared.lines.Call.TheVariants.{Read, Write, Vote}
+use Rattle.telling.specs.Answers.{value_words, done_words}
+use Rattle.telling.specs.Lines.{Tells, line}
 use Rattle.telling.specs.Scenes.{IsIdle, refusal_lines}
 use Rattle.telling.proofs.Written.{then_told}
 
@@ -27,14 +29,14 @@ module _ {V : Type 0} where
 
     -- a refused read, then a write of n, and then a vote of k, are told as refused
     pub told_refused : {E : Type 0} (r : Result (Unit {0}) E) (text : V → Option (List ℕ)) (admits : Admits) (v : V) (n k : Manager V)
-        (a b c d : Option (List ℕ)) → n ≡ m → k ≡ (write_of admits n 15 8 v).1 → IfSome (read_line text 16 5 (Err NoJob)) (Appends a b)
-        → IfSome (write_line text 15 8 v (write_of admits n 15 8 v).0) (Appends b c) → Tells r (vote_line 15 (vote_of k 15).0) c d
+        (a b c d : Option (List ℕ)) → n ≡ m → k ≡ (write_of admits n 15 8 v).1 → IfSome (line text (Read 16 5) (value_words text) (Err NoJob)) (Appends a b)
+        → IfSome (line text (Write 15 8 v) done_words (write_of admits n 15 8 v).0) (Appends b c) → Tells r (line text (Vote 15) done_words (vote_of k 15).0) c d
         → Tells r (refusal_lines text v) a d
     told_refused r text admits v n k a b c d before after read write vote =
-        then_told r (read_line text 16 5 (Err NoJob)) _ a b d read
-        (then_told r (write_line text 15 8 v (Err NoParameter)) (vote_line 15 (Err NotPending)) b c d
-        (subst (λ (x : Result (Unit {0}) ManagerFault). IfSome (write_line text 15 8 v x) (Appends b c)) written write)
-        (subst (λ (x : Result (Unit {0}) ManagerFault). Tells r (vote_line 15 x) c d) voted vote))
+        then_told r (line text (Read 16 5) (value_words text) (Err NoJob)) _ a b d read
+        (then_told r (line text (Write 15 8 v) done_words (Err NoParameter)) (line text (Vote 15) done_words (Err NotPending)) b c d
+        (subst (λ (x : Result (Unit {0}) ManagerFault). IfSome (line text (Write 15 8 v) done_words x) (Appends b c)) written write)
+        (subst (λ (x : Result (Unit {0}) ManagerFault). Tells r (line text (Vote 15) done_words x) c d) voted vote))
       where
         refused : write_of admits n 15 8 v ≡ (Err NoParameter, m)
         refused = ap (λ (x : Manager V). write_of admits x 15 8 v) before ∙ write_refused admits v

@@ -1,84 +1,50 @@
 // A line for each call of a manager, with its answer.
 
-ghost use Rattle.telling.specs.Lines.{Tells, read_line, write_line, settled_line, vote_line, commit_line, roll_back_line};
+ghost use Rattle.telling.specs.Lines.{Tells, call_words, line};
 
-use crate::answers::{Done, Lost, Told, Value};
-use jobs::set::JobSet;
+use crate::answers::Told;
 use rules::fault::ManagerFault;
 use std::fmt::Display;
-use std::io;
 use std::io::Write;
+use std::{fmt, io};
 
-// Tells that a job reads a parameter.
-pub fn tell_read<V: Copy + Display, W: Write>(
-    out: &mut W,
-    job: u8,
-    parameter: u8,
-    answer: Result<V, ManagerFault>,
-) -> io::Result<()>
-    ensures { Tells result (read_line V.output job parameter answer) (W.contents out.old) (W.contents out.new) }
-{
-    let told = Told(answer.map(Value));
-    writeln!(out, "job {job} reads parameter {parameter}: {told}")
+// A call of a manager.
+#[derive(Clone, Copy, PartialEq, Eq, Debug)]
+pub enum Call<V> {
+    Read { job: u8, parameter: u8 },
+    Write { job: u8, parameter: u8, value: V },
+    Vote { job: u8 },
+    Commit { job: u8 },
+    RollBack { job: u8 },
+    Settled { parameter: u8 },
 }
 
-// Tells that a job writes a value to a parameter.
-pub fn tell_write<V: Copy + Display, W: Write>(
-    out: &mut W,
-    job: u8,
-    parameter: u8,
-    value: V,
-    answer: Result<(), ManagerFault>,
-) -> io::Result<()>
-    ensures { Tells result (write_line V.output job parameter value answer) (W.contents out.old) (W.contents out.new) }
-{
-    let told = Told(answer.map(|()| Done));
-    writeln!(
-        out,
-        "job {job} writes {value} to parameter {parameter}: {told}"
-    )
+impl<V: Display> Display for Call<V> {
+    ghost output = { call_words V.output };
+
+    fn fmt<W: fmt::Write>(&self, f: &mut fmt::Formatter<W>) -> fmt::Result {
+        match self {
+            Call::Read { job, parameter } => write!(f, "job {job} reads parameter {parameter}"),
+            Call::Write {
+                job,
+                parameter,
+                value,
+            } => write!(f, "job {job} writes {value} to parameter {parameter}"),
+            Call::Vote { job } => write!(f, "vote on job {job}"),
+            Call::Commit { job } => write!(f, "commit job {job}"),
+            Call::RollBack { job } => write!(f, "roll back job {job}"),
+            Call::Settled { parameter } => write!(f, "settled parameter {parameter}"),
+        }
+    }
 }
 
-// Tells that the vote on a job is asked for.
-pub fn tell_vote<W: Write>(out: &mut W, job: u8, answer: Result<(), ManagerFault>) -> io::Result<()>
-    ensures { Tells result (vote_line job answer) (W.contents out.old) (W.contents out.new) }
-{
-    let told = Told(answer.map(|()| Done));
-    writeln!(out, "vote on job {job}: {told}")
-}
-
-// Tells that a job is committed, and whom that loses.
-pub fn tell_commit<W: Write>(
+// Tells a call and what it came to.
+pub fn tell<V: Copy + Display, A: Copy + Display, W: Write>(
     out: &mut W,
-    job: u8,
-    answer: Result<JobSet, ManagerFault>,
+    call: Call<V>,
+    answer: Result<A, ManagerFault>,
 ) -> io::Result<()>
-    ensures { Tells result (commit_line job answer) (W.contents out.old) (W.contents out.new) }
+    ensures { Tells result (line V.output call A.output answer) (W.contents out.old) (W.contents out.new) }
 {
-    let told = Told(answer.map(Lost));
-    writeln!(out, "commit job {job}: {told}")
-}
-
-// Tells that a job is rolled back, and whom that loses.
-pub fn tell_roll_back<W: Write>(
-    out: &mut W,
-    job: u8,
-    answer: Result<JobSet, ManagerFault>,
-) -> io::Result<()>
-    ensures { Tells result (roll_back_line job answer) (W.contents out.old) (W.contents out.new) }
-{
-    let told = Told(answer.map(Lost));
-    writeln!(out, "roll back job {job}: {told}")
-}
-
-// Tells the settled value of a parameter.
-pub fn tell_settled<V: Copy + Display, W: Write>(
-    out: &mut W,
-    parameter: u8,
-    answer: Result<V, ManagerFault>,
-) -> io::Result<()>
-    ensures { Tells result (settled_line V.output parameter answer) (W.contents out.old) (W.contents out.new) }
-{
-    let told = Told(answer.map(Value));
-    writeln!(out, "settled parameter {parameter}: {told}")
+    writeln!(out, "{call}: {}", Told(answer))
 }
