@@ -32,19 +32,12 @@ impl Job {
     }
 }
 
+// Written out, since no derive makes a value with a ghost field.
 impl Default for Job {
     ghost is_default = { λ job. job.number ≡ 0 };
 
     fn default() -> Job {
         Job::FIRST
-    }
-}
-
-impl From<Job> for u8 {
-    ghost from_gives = { λ job n. n ≡ job.number };
-
-    fn from(job: Job) -> u8 {
-        job.number
     }
 }
 

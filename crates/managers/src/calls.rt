@@ -1,5 +1,7 @@
 // The calls of a manager on plain tables of any kind and the caller's memory, for firmware that keeps its own. Memory that
-// is too small for the tables is refused before all else, so nothing is asked of the caller.
+// is too small for the tables is refused before all else, so nothing is asked of the caller. Tables and memory are two things,
+// since they are the caller's, and job and parameter two numbers, any of which may be passed. Each call says that the count of
+// parameters stays, since whoever calls again has to know that the memory still suffices.
 
 ghost use Rattle.std.specs.Prelude.{◌≡◌, true, false, ◌++◌, length, drop, is_ok, IfOk, IfErr, MatchResult, OnErr, OnOk, slice_set};
 ghost use Rattle.rules.specs.Manager.{fresh, wrote};

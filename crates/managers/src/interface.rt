@@ -6,7 +6,8 @@ use jobs::set::JobSet;
 use rules::fault::ManagerFault;
 
 // A resource manager of any kind: it guards some parameters, and says what becomes of the accesses of jobs to them.
-// Each call is answered, and leaves what the manager means, just as the rule for it says, refused calls too.
+// Each call is answered, and leaves what the manager means, just as the rule for it says, refused calls too. Calls are made by
+// plain numbers of jobs and parameters, any of which may be passed.
 pub trait ResourceManager {
     type Value: Copy;
 

@@ -46,10 +46,11 @@ pub(crate) fn settled<T: Tables, V: Copy>(
 fn last_place<T: Tables>(tables: &T, parameter: u8) -> usize
     ensures { result ≡ last_place (T.meaning tables.now) parameter }
 {
-    match tables.last_writer(parameter) {
-        Some(writer) => place_of(tables.parameters(), parameter, writer),
-        None => usize::from(parameter),
-    }
+    tables
+        .last_writer(parameter)
+        .map_or(usize::from(parameter), |writer| {
+            place_of(tables.parameters(), parameter, writer)
+        })
 }
 
 // The job of that number, if there is one.

@@ -19,8 +19,8 @@ struct Lock {
     writer: Option<Job>,
 }
 
-// The tables of a locking manager, which refuses every conflicting access. They are free of the kind of value, and of fixed
-// size, since a manager allocates nothing. The first `count` locks are used.
+// The tables of a locking manager, which refuses every conflicting access. They are free of the kind of value. The first
+// `count` locks are used. A vector of fixed capacity would have to be said to be 1 to 64 long, which `Count` says of itself.
 #[derive(Drop)]
 pub struct Locks {
     count: Count,

@@ -22,8 +22,8 @@ pub struct TableManager<T: Tables, V> {
 }
 
 impl<T: Tables, V: Copy> TableManager<T, V> {
-    // A fresh manager with these starting values, which keeps its values in that memory. Another count than 1 to 64
-    // parameters, or memory for less than 32 values for each, is refused, and the memory comes back.
+    // A fresh manager with these starting values, which keeps its values in that memory; both are the caller's. Another count
+    // than 1 to 64 parameters, or memory for less than 32 values for each, is refused, and the memory comes back.
     pub fn new(memory: Vec<V>, starting: &[V]) -> Result<TableManager<T, V>, NoRoom<V>>
         ensures accepted { is_ok result ≡ can_set_up (length starting.now) (vec_len memory) }
         ensures outcome { MatchResult result (λ m. with_values (T.meaning m.tables) m.memory.items ≡ fresh starting.now) (λ e. (e.fault ≡ ManagerFault.NoRoom) × (e.memory ≡ memory)) }

@@ -17,7 +17,7 @@ pub fn room_for(count: u8, len: usize) -> bool
     VALUES_FOR_ONE * usize::from(count) <= len
 }
 
-// Whether a manager of `count` parameters can be set up in memory for `len` values.
+// Whether a manager of `count` parameters can be set up in memory for `len` values: two numbers, of which either may be wrong.
 pub fn can_set_up(count: usize, len: usize) -> bool
     ensures { result ≡ can_set_up count len }
 {

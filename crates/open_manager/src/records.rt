@@ -12,7 +12,7 @@ pub(crate) struct Record {
     writers: Writers,
 }
 
-// The records of the parameters, by their numbers. An array of as many as there can be, since a manager allocates nothing.
+// The records of the parameters, by their numbers: as many as there can be. How many are used, the tables know by a `Count`.
 #[derive(Drop)]
 pub(crate) struct Records {
     entries: [Record; 64],

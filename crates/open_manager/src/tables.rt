@@ -27,10 +27,10 @@ impl OpenTables {
     fn found(&self, parameter: u8) -> Result<&Record, ManagerFault>
         ensures { MatchResult result (λ r. (parameter < self.now.count.number) × (r.now ≡ record_in self.now parameter)) (λ f. (self.now.count.number ≤ parameter) × (f ≡ ManagerFault.NoParameter)) }
     {
-        match self.records.get(parameter) {
-            Some(record) if parameter < self.count.number() => Ok(record),
-            _ => Err(ManagerFault::NoParameter),
-        }
+        self.records
+            .get(parameter)
+            .filter(|_| parameter < self.count.number())
+            .ok_or(ManagerFault::NoParameter)
     }
 }
 

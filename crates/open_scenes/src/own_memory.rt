@@ -9,7 +9,8 @@ use std::io::Write;
 use telling::answers::{Done, Lost, Value};
 use telling::lines::{Call, tell};
 
-// Job 0 writes parameter 1, and job 1 reads it and is rolled back before job 0 is committed.
+// Job 0 writes parameter 1, and job 1 reads it and is rolled back before job 0 is committed. Each call is paired with its answer
+// here, since a teller wants a drive that keeps its memory.
 fn share<V: Copy + Display, W: Write>(
     out: &mut W,
     tables: &mut OpenTables,

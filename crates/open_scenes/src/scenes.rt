@@ -49,7 +49,8 @@ fn cascade<V: Copy + Display>(
     teller.roll_back(6)
 }
 
-// Jobs that get into each other's way at an open manager, which lets everyone in; for any kind of value.
+// Jobs that get into each other's way at an open manager, which lets everyone in; for any kind of value, of which it is played
+// with three.
 pub fn play_open<V: Copy + Display>(
     rt: &HostRuntime,
     starting: V,

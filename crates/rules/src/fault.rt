@@ -4,7 +4,8 @@ ghost use Rattle.rules.specs.Faults.{number_of, words_of};
 use std::error::Error;
 use std::fmt;
 
-// Why a resource manager refuses a call. Where another job is in the way, its number stands in the case.
+// Why a resource manager refuses a call. Where another job is in the way, its number stands in the case: a plain one, as the
+// calls take them.
 #[derive(Clone, Copy, PartialEq, Eq, Debug)]
 pub enum ManagerFault {
     // there is no job of that number

@@ -41,7 +41,7 @@ fn rival_again<V: Copy + Display>(
     teller.commit(1)
 }
 
-// The scene at a locking manager, for any kind of value.
+// The scene at a locking manager, for any kind of value, of which it is played with three.
 fn play<V: Copy + Display>(
     rt: &HostRuntime,
     starting: V,

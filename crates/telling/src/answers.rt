@@ -47,7 +47,7 @@ impl Display for Lost {
             return f.write_str("lost none");
         }
         f.write_str("lost")?;
-        for job in self.0.members() {
+        for job in self.0 {
             write!(f, " {}", job.number())?;
         }
         Ok(())

@@ -19,7 +19,7 @@ use std::io::Write;
 const PARAMETERS: usize = 8;
 
 // Room for 32 values for each parameter.
-pub const ROOM: usize = 256;
+pub const ROOM: usize = 32 * PARAMETERS;
 
 // A drive that nobody has called yet, of the kind that its tables are, and where its calls are told. Its parameters all
 // start at one value.

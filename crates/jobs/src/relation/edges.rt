@@ -38,7 +38,7 @@ impl Relation {
         ensures pairs { (i k : ℕ) → related result i k ≡ (related self i k && (not (i == job.number) && not (k == job.number))) }
     {
         let mut rows = self.rows;
-        for row in rows.iter_mut() {
+        for row in &mut rows {
             *row = row.remove(job);
         }
         rows[usize::from(job)] = JobSet::empty();
@@ -58,6 +58,7 @@ impl Relation {
         ensures value { result ≡ jobs_where (λ i. related self i job.number) }
         ensures members { (i : ℕ) → member result i ≡ related self i job.number }
     {
+        // inserted one by one: what is collected wants an allocator here, and a set needs none
         let mut found = JobSet::empty();
         for other in JobSet::all() {
             if self.rows[usize::from(other)].contains(job) {

@@ -56,6 +56,7 @@ impl Lock {
     fn conflict(self, job: Job, access: Access) -> Option<Job>
         ensures { number_in result ≡ lowest (rivals self job.number access) 16 }
     {
+        // as for a record of an open manager, but here one job writes at most, and the lowest is asked for
         let holders = match access {
             Access::Read => self.writers(),
             Access::Write => self.readers.union(self.writers()),

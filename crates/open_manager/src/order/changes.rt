@@ -101,16 +101,18 @@ impl Order {
     fn reading_from(self, job: Job, source: Option<Job>) -> Relation
         ensures { (k i : ℕ) → related result k i ≡ (reads_from self k i || (k == job.number && not (i == job.number) && names (number_in source) i)) }
     {
-        match source.filter(|other| *other != job) {
-            Some(other) => self.reads_from.with_edges(JobSet::of(job), other),
-            None => self.reads_from,
-        }
+        source
+            .filter(|other| *other != job)
+            .map_or(self.reads_from, |other| {
+                self.reads_from.with_edges(JobSet::of(job), other)
+            })
     }
 
     // With the vote for the job. Refused where it read from a pending job, or stands in an order with a voted one.
     pub(crate) fn with_vote(self, job: Job) -> Result<Order, ManagerFault>
         ensures { MatchResult result (λ r. (obstacle self job.number ≡ None) × WithVote self job.number r) (λ f. obstacle self job.number ≡ Some f) }
     {
+        // each is taken apart plainly: somebody in the way is a refusal, and nobody none
         if let Some(source) = self.source(job) {
             return Err(ManagerFault::ReadFrom(source.number()));
         }

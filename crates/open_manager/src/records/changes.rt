@@ -39,6 +39,7 @@ impl Record {
     pub(crate) fn conflicts(&self, job: Job, access: Access) -> JobSet
         ensures { (k : ℕ) → member result k ≡ rivals self.now job.number access k }
     {
+        // as for a lock, but here many jobs may write, and all of them are asked for
         let holders = match access {
             Access::Read => self.writers.jobs(),
             Access::Write => self.readers.union(self.writers.jobs()),
@@ -106,7 +107,7 @@ impl Records {
     pub(crate) fn leave(&mut self, job: Job)
         ensures { JobLeft self.old.entries job.number self.new.entries }
     {
-        for entry in self.entries.iter_mut() {
+        for entry in &mut self.entries {
             entry.remove(job);
         }
     }

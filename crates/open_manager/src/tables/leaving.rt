@@ -42,7 +42,7 @@ impl OpenTables {
         ensures fits { result.bits < 2 ^ 16 }
     {
         let mut gone = JobSet::empty();
-        for job in jobs.members() {
+        for job in jobs {
             gone = gone.union(self.roll_back_one(job));
         }
         gone

@@ -36,6 +36,7 @@ impl Writers {
     pub(crate) fn jobs(&self) -> JobSet
         ensures { (k : ℕ) → member result k ≡ among (listed self.now) k }
     {
+        // inserted one by one, since a set is not collected
         let mut found = JobSet::empty();
         for job in self.jobs.iter() {
             found = found.insert(*job);

@@ -1,7 +1,6 @@
-use Rattle.std.proofs.Common.{◌≡◌, ℕ, ◌+◌, ◌*◌, ◌<◌, eqb, sym, ap, ◌∙◌, subst, arith}
+use Rattle.std.proofs.Common.{◌≡◌, ℕ, ◌+◌, ◌*◌, ◌<◌, eqb, sym, ap, subst, arith}
 use Rattle.std.proofs.lemmas.Bool.Decides.{nat_tests}
 use Rattle.jobs.specs.declared.set.JobSet.{JobSet}
-use Rattle.jobs.specs.declared.members.Members.{Members}
 use Rattle.jobs.specs.Sets.{how_many}
 use Rattle.jobs.specs.Jobs.{member}
 use Rattle.jobs.proofs.Jobs.{next_some, next_none, set_fits}
@@ -56,8 +55,7 @@ roll_back_each-loop-job-preserved t c =
 
 pub roll_back_each-returns : goal.roll_back_each-returns
 roll_back_each-returns t c =
-    let all : c.into_iter-job-iterator.result.left ≡ c.args.jobs =
-    ap (λ (m : Members). m.left) c.into_iter-job-iterator.ensures.into_iter_gives ∙ c.members-job-items.ensures in
+    let all : c.into_iter-job-iterator.result.left ≡ c.args.jobs = c.into_iter-job-iterator.ensures.into_iter_gives in
     let inv = c.loop-job.invariant in
     record {
       left = inv.leaving;
