@@ -56,12 +56,13 @@ PATTERNS = {
 
 
 def twins(files):
-    """Functions of one name in two files, and functions of one file that are the same but for types and constants."""
+    """Names of functions that stand in two files: twins, but where they are methods of a trait and its impls, or of types that
+    have different fields. Which they are has to be read."""
     places = collections.defaultdict(list)
     for path, text in files:
         for found in re.finditer(r"^\s*(?:pub(?:\(crate\))? )?fn (\w+)", text, re.M):
             places[found.group(1)].append(f"{path}:{text.count(chr(10), 0, found.start()) + 1}")
-    ordinary = {"new", "main", "fmt", "next"}
+    ordinary = {"main", "fmt", "next"}
     for name, at in sorted(places.items()):
         if len(at) > 1 and name not in ordinary:
             yield f"{name}: {', '.join(at)}"
@@ -71,8 +72,8 @@ def repeated(files):
     """Facts that stand in three contracts or more, and parameters that travel together through three functions or more."""
     facts, pairs = collections.Counter(), collections.Counter()
     for path, text in files:
-        for found in re.finditer(r"^\s*requires (?:\w+ )?\{ (.*) \}$", text, re.M):
-            facts[re.sub(r"\b(self|tables|locks|_?values)\.(old|now)\b", r"\1", found.group(1))] += 1
+        for found in re.finditer(r"^\s*(requires|ensures) (?:\w+ )?\{ (.*) \};?$", text, re.M):
+            facts[re.sub(r"\b(self|tables|locks|_?values)\.(old|now)\b", r"\1", found.group(2))] += 1
         for found in re.finditer(r"fn \w+(?:<[^(]*>)?\(([^)]*)\)", text):
             names = [word.split(":")[0].strip() for word in re.split(r",(?![^<]*>)", found.group(1)) if ":" in word]
             for first, second in zip(names, names[1:]):

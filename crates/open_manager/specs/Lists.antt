@@ -1,11 +1,14 @@
 -- Jobs listed in the order of their writes, told by their numbers.
-use Rattle.std.specs.Prelude.{ℕ, Bool, true, not, ◌&&◌, List, [], ◌∷◌, map, reverse, Some, None, Option, ◌==◌}
+use Rattle.std.specs.Prelude.{◌≡◌, ℕ, Bool, true, not, ◌&&◌, List, [], ◌∷◌, map, reverse, Some, None, Option, ◌==◌, refl}
 use Rattle.std.specs.List.{list_any, filter}
 use Rattle.jobs.specs.declared.job.Job.{Job}
 
 -- the numbers of jobs, the last one first
 abbrev pub last_first : List Job → List ℕ
 last_first jobs = reverse (map (λ j. j.number) jobs)
+
+pub last_first_none : last_first [] ≡ []
+last_first_none = refl
 
 -- is k among those listed
 abbrev pub among : List ℕ → ℕ → Bool
