@@ -41,6 +41,9 @@ PATTERNS = {
         r"Some\(\w+\) => Some\(",
         r"Err\(_\) => Err\(",
         r"return None;",
+        r"if let Some\(\w+\) = .* \{\n\s*return (Err|Some)\(",
+        r"return Err\(NoRoom \{",
+        r"\} else \{\n\s*(None|Err\(.*\))\n",
         r"if !\w+\(.*\) \{\n\s*return Err\(ManagerFault::NoRoom\);",
         r"^// .*, or 16 where there is none\.",
     ],
@@ -73,9 +76,9 @@ def repeated(files):
     facts, pairs = collections.Counter(), collections.Counter()
     for path, text in files:
         for found in re.finditer(r"^\s*(requires|ensures) (?:\w+ )?\{ (.*) \};?$", text, re.M):
-            facts[re.sub(r"\b(self|tables|locks|_?values)\.(old|now)\b", r"\1", found.group(2))] += 1
+            facts[re.sub(r"\b_?(self|tables|locks|values)\.(old|now)\b", r"\1", found.group(2))] += 1
         for found in re.finditer(r"fn \w+(?:<[^(]*>)?\(([^)]*)\)", text):
-            names = [word.split(":")[0].strip() for word in re.split(r",(?![^<]*>)", found.group(1)) if ":" in word]
+            names = [word.split(":")[0].strip().lstrip("_") for word in re.split(r",(?![^<]*>)", found.group(1)) if ":" in word]
             for first, second in zip(names, names[1:]):
                 pairs[(first, second)] += 1
     for fact, times in facts.most_common():

@@ -14,7 +14,8 @@ impl Job {
     // The job of the lowest number.
     pub const FIRST: Job = Job { number: 0 };
 
-    // The job of that number, or nothing where there is no such job.
+    // The job of that number, or nothing where there is no such job. No `TryFrom`, which would want an error that tells no more,
+    // and no `then`, since what makes a job has to know that the test held.
     pub fn new(number: u8) -> Option<Job>
         ensures { MatchOption result (16 ≤ number) (λ j. j.number ≡ number) }
     {

@@ -1,7 +1,7 @@
 // The calls of a manager on plain tables of any kind and the caller's memory, for firmware that keeps its own. Memory that
 // is too small for the tables is refused before all else, so nothing is asked of the caller. Tables and memory are two things,
 // since they are the caller's, and job and parameter two numbers, any of which may be passed. Each call says that the count of
-// parameters stays, since whoever calls again has to know that the memory still suffices.
+// parameters stays, and that a refusal leaves tables and memory, since whoever calls again has to know both.
 
 ghost use Rattle.std.specs.Prelude.{◌≡◌, true, false, ◌++◌, length, drop, is_ok, IfOk, IfErr, MatchResult, OnErr, OnOk, slice_set};
 ghost use Rattle.rules.specs.Manager.{fresh, wrote};
@@ -32,11 +32,9 @@ pub fn set_up_in<T: Tables, V: Copy>(values: &mut [V], starting: &[V]) -> Result
 fn find_room<T: Tables, V: Copy>(tables: &T, values: &[V]) -> Result<(), ManagerFault>
     ensures { MatchResult result (λ _. room_for (count_of (T.meaning tables.now)) (length values.now) ≡ true) (λ f. (room_for (count_of (T.meaning tables.now)) (length values.now) ≡ false) × (f ≡ ManagerFault.NoRoom)) }
 {
-    if room_for(tables.parameters(), values.len()) {
-        Ok(())
-    } else {
-        Err(ManagerFault::NoRoom)
-    }
+    room_for(tables.parameters(), values.len())
+        .then_some(())
+        .ok_or(ManagerFault::NoRoom)
 }
 
 // How many parameters the tables are for.

@@ -1,6 +1,7 @@
 // The calls of a manager, by its tables and memory that is large enough for them. A vote and a roll back leave the memory
 // alone; it is passed for what the tables mean with it. Tables and memory stand side by side, and not in a struct, since some
-// calls only read the one or the other: that would be three structs.
+// calls only read the one or the other: that would be three structs. Job and parameter are the numbers of the call, as they came,
+// and what is said of the count and of a refusal is what the public calls say.
 
 ghost use Rattle.std.specs.Prelude.{◌≡◌, ℕ, ◌*◌, ◌<◌, ◌≤◌, true, ◌++◌, length, drop, Some, None, MatchResult, OnErr, IfOk, slice_set};
 ghost use Rattle.rules.specs.Manager.{fresh, pending, wrote};

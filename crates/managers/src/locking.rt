@@ -20,7 +20,7 @@ struct Lock {
 }
 
 // The tables of a locking manager, which refuses every conflicting access. They are free of the kind of value. The first
-// `count` locks are used. A vector of fixed capacity would have to be said to be 1 to 64 long, which `Count` says of itself.
+// `count` locks are used. The length of a vector would have to be cast to a count, and said to be at least one in each kind.
 #[derive(Drop)]
 pub struct Locks {
     count: Count,

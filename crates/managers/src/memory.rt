@@ -24,7 +24,7 @@ pub fn can_set_up(count: usize, len: usize) -> bool
     1 <= count && count <= MOST_PARAMETERS && VALUES_FOR_ONE * count <= len
 }
 
-// The place in memory of the job's pending write of a parameter.
+// The place in memory of the job's pending write of a parameter, of so many.
 pub fn place_of(count: u8, parameter: u8, job: Job) -> usize
     ensures { result ≡ place count parameter job.number }
 {
@@ -40,7 +40,8 @@ pub struct Count {
 }
 
 impl Count {
-    // That many, if a manager of so many parameters can be set up in memory for `len` values.
+    // That many, if a manager of so many parameters can be set up in memory for `len` values. No `then`, since what makes a count
+    // has to know that the test held.
     pub fn new(count: usize, len: usize) -> Option<Count>
         ensures { MatchOption result (can_set_up count len ≡ false) (λ c. (can_set_up count len ≡ true) × (c.number ≡ count)) }
     {

@@ -11,7 +11,8 @@ use jobs::set::JobSet;
 use rules::fault::ManagerFault;
 
 // The tables of a kind of manager: who reads and who writes which parameter, and how jobs are related. They keep no values,
-// and so are the same for every kind of value.
+// and so are the same for every kind of value. The job of a call has been found before; its parameter may be any number. Each
+// access says by itself that a refusal leaves the tables, since what they mean does not tell it.
 pub trait Tables {
     // What the tables hold.
     ghost meaning: { Self → Held };

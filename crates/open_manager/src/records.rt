@@ -12,7 +12,8 @@ pub(crate) struct Record {
     writers: Writers,
 }
 
-// The records of the parameters, by their numbers: as many as there can be. How many are used, the tables know by a `Count`.
+// The records of the parameters, by their numbers: as many as there can be. How many are used, the tables know by a `Count`; the
+// length of a vector would have to be cast to one.
 #[derive(Drop)]
 pub(crate) struct Records {
     entries: [Record; 64],

@@ -10,7 +10,7 @@ use telling::answers::{Done, Lost, Value};
 use telling::lines::{Call, tell};
 
 // Job 0 writes parameter 1, and job 1 reads it and is rolled back before job 0 is committed. Each call is paired with its answer
-// here, since a teller wants a drive that keeps its memory.
+// here, since a teller wants a manager, and there is none over borrowed memory.
 fn share<V: Copy + Display, W: Write>(
     out: &mut W,
     tables: &mut OpenTables,

@@ -34,6 +34,7 @@ pub fn fresh_teller<T: Tables, V: Copy, W: Drop>(
     let memory = vec![in alloc; starting; ROOM]?;
     match TableManager::new(memory, &[starting; PARAMETERS]) {
         Ok(drive) => Ok(Teller { out, drive }),
+        // eight parameters have room, as the contract of `new` tells
         Err(_) => unreachable!(),
     }
 }

@@ -11,6 +11,7 @@ use std::io;
 use std::io::Write;
 
 // A drive, and where its calls are told. Each call is made first and told then, so it is made even where telling fails.
+// Calls are made by numbers, as the drive takes them.
 #[derive(Drop)]
 pub struct Teller<W, M> {
     pub out: W,

@@ -58,7 +58,7 @@ impl Relation {
         ensures value { result ≡ jobs_where (λ i. related self i job.number) }
         ensures members { (i : ℕ) → member result i ≡ related self i job.number }
     {
-        // inserted one by one: what is collected wants an allocator here, and a set needs none
+        // inserted one by one: what is collected wants an allocator, and a fold is no plainer
         let mut found = JobSet::empty();
         for other in JobSet::all() {
             if self.rows[usize::from(other)].contains(job) {

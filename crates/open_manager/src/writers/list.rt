@@ -36,7 +36,7 @@ impl Writers {
     pub(crate) fn jobs(&self) -> JobSet
         ensures { (k : ℕ) → member result k ≡ among (listed self.now) k }
     {
-        // inserted one by one, since a set is not collected
+        // inserted one by one: what is collected wants an allocator, and a fold is no plainer
         let mut found = JobSet::empty();
         for job in self.jobs.iter() {
             found = found.insert(*job);
