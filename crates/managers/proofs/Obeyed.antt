@@ -134,9 +134,6 @@ module _ {V : Type 0} (m : Held) (vs : List V) (room : 32 * length m.settled ≤
     pending_passes : {A : Type 0} (x : Answered A V) → pending_fault m j ≡ None → (j < 16) × (pending m j ≡ true) × (pending_of with j x ≡ x)
     pending_passes x h = pending_accepted with j x (pending m j) (pending_are m vs room low j) h
 
-    pub is_pending : pending_fault m j ≡ None → pending m j ≡ true
-    is_pending h = (pending_passes {A = Unit {0}} (Ok tt, with) h).1
-
     -- a second vote
     pub vote_again : pending_fault m j ≡ None → m.voted j ≡ true → Obeys (vote_of with j) (Err VotedAlready) with
     vote_again h v = obeys ((pending_passes _ h).2 ∙ refused (m.voted j) VotedAlready with _ v)

@@ -1,10 +1,10 @@
 -- What tables that keep no values hold, and what they mean together with the values in memory.
-use Rattle.std.specs.Prelude.{◌≡◌, ℕ, ◌*◌, ◌≤◌, Bool, true, List, [], ◌∷◌, length, take, replicate, Some, None, Ok, Option}
+use Rattle.std.specs.Prelude.{◌≡◌, ℕ, ◌*◌, ◌≤◌, Bool, List, [], ◌∷◌, length, take, replicate, Some, None, Ok, Option}
 use Rattle.std.specs.List.{slice_get}
 use Rattle.jobs.specs.declared.set.JobSet.{JobSet}
 use Rattle.jobs.specs.Jobs.{jobs_where}
 use Rattle.rules.specs.declared.fault.ManagerFault.TheVariants.{ReadFrom, Ordered}
-use Rattle.rules.specs.Manager.{Manager, Writes, fresh, last_writer, pending}
+use Rattle.rules.specs.Manager.{Manager, Writes, fresh, last_writer}
 use Rattle.rules.specs.Changes.{vote, leave_with}
 use Rattle.rules.specs.Calls.{Answered, refuse_by, source_of, rival_of}
 use Rattle.managers.specs.Memory.{place}
@@ -20,13 +20,6 @@ count_of m = length m.settled
 -- nobody has accessed any of n parameters
 abbrev pub unused : ℕ → Held
 unused n = fresh (replicate n tt)
-
-abbrev pub IsPending : Held → ℕ → Type 0
-IsPending m j = pending m j ≡ true
-
--- is j pending, and has it voted
-abbrev pub IsVoted : Held → ℕ → Type 0
-IsVoted m j = (pending m j ≡ true) × (m.voted j ≡ true)
 
 -- j left with the others, who are told
 pub record Leaves (m : Held) (others : ℕ → Bool) (j : ℕ) (lost : JobSet) (now : Held) : Type 0 where

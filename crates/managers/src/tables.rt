@@ -3,7 +3,7 @@ ghost use Rattle.jobs.specs.Jobs.{number_in};
 ghost use Rattle.rules.specs.Manager.{last_writer, wrote, pending};
 ghost use Rattle.rules.specs.Changes.{lost_to_commit, lost_to_roll_back};
 ghost use Rattle.rules.specs.Calls.{Admits, Obeys, read_of, write_of};
-ghost use Rattle.managers.specs.Tables.{Held, count_of, unused, vote_if_free, IsPending, IsVoted, Leaves};
+ghost use Rattle.managers.specs.Tables.{Held, count_of, unused, vote_if_free, Leaves};
 
 use crate::memory::Count;
 use jobs::job::Job;
@@ -59,13 +59,13 @@ pub trait Tables {
         ensures follows_the_rules { Obeys (vote_if_free (meaning self.old) job.number) result (meaning self.new) }
         ensures refusal_changes_nothing { OnErr result (self.new ≡ self.old) };
 
-    // A voted job leaves, and those that precede it are rolled back. Tells who was.
+    // The job leaves, and those that precede it are rolled back. Tells who was.
     fn commit(&mut self, job: Job) -> JobSet
-        ensures follows_the_rules { IsVoted (meaning self.old) job.number → Leaves (meaning self.old) (lost_to_commit (meaning self.old) job.number) job.number result (meaning self.new) };
+        ensures follows_the_rules { Leaves (meaning self.old) (lost_to_commit (meaning self.old) job.number) job.number result (meaning self.new) };
 
-    // A job is rolled back, and those that read from it with it. Tells who else was.
+    // The job leaves, and those that read from it are rolled back. Tells who was.
     fn roll_back(&mut self, job: Job) -> JobSet
-        ensures follows_the_rules { IsPending (meaning self.old) job.number → Leaves (meaning self.old) (lost_to_roll_back (meaning self.old) job.number) job.number result (meaning self.new) };
+        ensures follows_the_rules { Leaves (meaning self.old) (lost_to_roll_back (meaning self.old) job.number) job.number result (meaning self.new) };
 
     // Only jobs write.
     ghost jobs_write: { (t : Self) (p k : ℕ) → wrote k ((meaning t).writes p) ≡ true → k < 16 };

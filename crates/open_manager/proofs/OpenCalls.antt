@@ -1,13 +1,13 @@
 -- The calls on the tables of an open manager obey the rules.
-use Rattle.std.proofs.Common.{◌≡◌, Ok, subst, replicate, ℕ, ◌^◌, ◌<◌, Bool, true, false, not, ◌&&◌, ◌||◌, eqb, ◌⊎◌, Some, None, Err, Option, Result, IsErrAnd, sym, refl, ap, ◌∙◌, inl, inr, arith}
+use Rattle.std.proofs.Common.{◌≡◌, Ok, subst, replicate, ℕ, ◌<◌, Bool, true, false, not, ◌&&◌, ◌||◌, eqb, Some, None, Err, Option, Result, IsErrAnd, sym, refl, ap, ◌∙◌, arith}
 use mathlib.Core.Path.{fun_ext}
 use Rattle.std.proofs.lemmas.List.{length-replicate}
-use Rattle.std.proofs.lemmas.Bool.{eqb-true, lt-leb}
+use Rattle.std.proofs.lemmas.Bool.{lt-leb}
 use Rattle.std.proofs.lemmas.Bool.Decides.{nat_tests}
 use Rattle.jobs.specs.declared.job.Job.{Job}
 use Rattle.jobs.specs.declared.set.JobSet.{JobSet}
 use Rattle.jobs.specs.Jobs.{member, jobs_where}
-use Rattle.jobs.proofs.Jobs.{set_is, member_low}
+use Rattle.jobs.proofs.Jobs.{member_low}
 use Rattle.rules.specs.declared.access.Access.{Access}
 use Rattle.rules.specs.declared.access.Access.TheVariants.{Read, Write}
 use Rattle.rules.specs.declared.fault.ManagerFault.{ManagerFault}
@@ -17,9 +17,8 @@ use Rattle.rules.specs.Cascade.{goes}
 use Rattle.rules.specs.Changes.{read, write, leave, lost_to_commit, lost_to_roll_back}
 use Rattle.rules.specs.Calls.{Answered, Obeys, access_of, read_of, write_of, stops}
 use Rattle.rules.proofs.Calls.{obeys}
-use Rattle.rules.proofs.Cascade.{gone_cause}
 use Rattle.managers.specs.declared.memory.Count.{Count}
-use Rattle.managers.specs.Tables.{Held, IsVoted, IsPending, Leaves}
+use Rattle.managers.specs.Tables.{Held, Leaves}
 use Rattle.managers.proofs.Faults.{exits}
 use Rattle.managers.proofs.Refusals.{access_refused, access_accepted}
 use Rattle.open_manager.specs.declared.OpenTables.{OpenTables}
@@ -30,16 +29,13 @@ use Rattle.open_manager.specs.Writers.{listed}
 use Rattle.open_manager.specs.Records.{rivals, ReaderNoted, WriterNoted}
 use Rattle.open_manager.specs.RollBack.{RolledBack}
 use Rattle.open_manager.specs.Open.{record_in, reads_in, writers_in, writes_by, held_by, admits_all, Left}
-use Rattle.open_manager.proofs.Meanings.{pending_is, read_means, write_means, leave_means}
+use Rattle.open_manager.proofs.Meanings.{read_means, write_means, leave_means}
 use Rattle.open_manager.proofs.Leaving.{left_twice}
-use Rattle.open_manager.proofs.RollingBack.{rolled_goes, one_goes}
+use Rattle.open_manager.proofs.RollingBack.{rolled_goes}
 
--- a set with one job that belongs to it, and one without a job that does not
-with_one : (g e : Bool) → (e ≡ true → g ≡ true) → g ≡ ((g && not e) || e)
-with_one g e f = grind (arith, nat_tests)
-
-without_one : (g e : Bool) → (e ≡ true → g ≡ true → ⊥) → g ≡ (g && not e)
-without_one g e f = grind (arith, nat_tests)
+-- one job besides those of a set, whether it belongs to the set or not
+besides : (g e : Bool) → (g || e) ≡ ((g && not e) || e)
+besides g e = grind (arith, nat_tests)
 
 module _ (t : OpenTables) (j : ℕ) where
   abbrev m : Held
@@ -75,58 +71,33 @@ module _ (t : OpenTables) (j : ℕ) where
         let there = lt-leb n p inside in
         (access_accepted m n (length-replicate n tt) admits_all j p a x None (λ l. never_stopped p a) (grind (arith, nat_tests))).4.2
 
-  -- the job left with those that read from it, and in turn
-  pub roll_back_leaves : (u : OpenTables) (gone r : JobSet) → j < 16 → IsPending m j → Left t (member gone) u
-      → RolledBack (λ k. eqb k j) (reads_from t.order) (is_pending t.order) (member gone)
-      → r ≡ jobs_where (λ k. member gone k && not (eqb k j)) → Leaves m (lost_to_roll_back m j) j r (held_by u)
-  roll_back_leaves u gone r low h l b e = record {
-    told = e ∙ ap jobs_where (fun_ext lost);
-    after = leave_means t u (member gone) l ∙ ap (λ (f : ℕ → Bool). leave f m) (fun_ext all);
+  -- some were rolled back, all of whom were pending, and then j left
+  leaves : (first : ℕ → Bool) → ((i : ℕ) → first i ≡ true → is_pending t.order i ≡ true) → (u w : OpenTables) (ahead gone r : JobSet)
+      → ((k : ℕ) → member ahead k ≡ first k) → Left t (member gone) w
+      → RolledBack (member ahead) (reads_from t.order) (is_pending t.order) (member gone) → Left w (λ k. eqb k j) u
+      → r ≡ jobs_where (λ k. member gone k && not (eqb k j)) → Leaves m (λ k. goes 16 first (reads_from t.order) k && not (eqb k j)) j r (held_by u)
+  leaves first start u w ahead gone r is l b left e = record {
+    told = e ∙ ap jobs_where (fun_ext (λ k. ap (λ (x : Bool). x && not (eqb k j)) (went k)));
+    after = leave_means t u (λ k. member gone k || eqb k j) (left_twice t w u (member gone) (λ k. eqb k j) _ (λ k. refl) l left)
+        ∙ ap (λ (f : ℕ → Bool). leave f m) (fun_ext (λ k. ap (λ (x : Bool). x || eqb k j) (went k) ∙ besides (goes 16 first (reads_from t.order) k) (eqb k j)));
   }
     where
-      own : (k : ℕ) → eqb k j ≡ true → is_pending t.order k ≡ true
-      own k q = ap (is_pending t.order) (eqb-true k j q) ∙ sym (pending_is t j) ∙ h
-
-      lost : (k : ℕ) → (member gone k && not (eqb k j)) ≡ lost_to_roll_back m j k
-      lost k =
-          ap (λ (x : Bool). x && not (eqb k j))
-          (rolled_goes (reads_from t.order) (is_pending t.order) (λ i. eqb i j) (member gone) (member_low t.order.pending) own t.order.readers b k)
-          ∙ one_goes (reads_from t.order) (λ k i q. member_low t.order.pending k (t.order.readers k i q)) j low k
-
-      all : (k : ℕ) → member gone k ≡ (lost_to_roll_back m j k || eqb k j)
-      all k = with_one (member gone k) (eqb k j) (λ q. b.all k q (own k q)) ∙ ap (λ (x : Bool). x || eqb k j) (lost k)
-
-  -- those that precede the job were rolled back, and then it left
-  pub commit_leaves : (u w : OpenTables) (ahead lost : JobSet) → IsVoted m j → ((k : ℕ) → member ahead k ≡ precedes t.order k j)
-      → Left t (member lost) w → RolledBack (member ahead) (reads_from t.order) (is_pending t.order) (member lost) → lost.bits < 2 ^ 16
-      → Left w (λ k. eqb k j) u → Leaves m (lost_to_commit m j) j lost (held_by u)
-  commit_leaves u w ahead lost h first l b fits left = record {
-    told = set_is lost (lost_to_commit m j) fits is;
-    after = leave_means t u (λ k. member lost k || eqb k j) (left_twice t w u (member lost) (λ k. eqb k j) _ (λ k. refl) l left)
-        ∙ ap (λ (f : ℕ → Bool). leave f m) (fun_ext (λ k. ap (λ (x : Bool). x || eqb k j) (is k)));
-  }
-    where
-      went : (k : ℕ) → member lost k ≡ goes 16 (λ i. precedes t.order i j) (reads_from t.order) k
+      went : (k : ℕ) → member gone k ≡ goes 16 first (reads_from t.order) k
       went k =
-          rolled_goes (reads_from t.order) (is_pending t.order) (member ahead) (member lost) (member_low t.order.pending)
-          (λ i q. t.order.ahead i j (sym (first i) ∙ q)) t.order.readers b k
-          ∙ ap (λ (f : ℕ → Bool). goes 16 f (reads_from t.order) k) (fun_ext first)
+          rolled_goes (reads_from t.order) (is_pending t.order) (member ahead) (member gone) (member_low t.order.pending)
+          (λ i q. start i (sym (is i) ∙ q)) t.order.readers b k
+          ∙ ap (λ (f : ℕ → Bool). goes 16 f (reads_from t.order) k) (fun_ext is)
 
-      -- a voted job reads from nobody, and no job precedes itself
-      stays : goes 16 (λ i. precedes t.order i j) (reads_from t.order) j ≡ true → ⊥
-      stays g = cause (gone_cause 16 (λ i. precedes t.order i j) (reads_from t.order) 16 j g)
-        where
-          cause : (precedes t.order j j ≡ true) ⊎ ((i : ℕ) × (reads_from t.order j i ≡ true)) → ⊥
-          cause (inl p) = let x = t.order.itself j in let z : ◌≡◌ {A = ℕ} 0 1 = grind (arith, nat_tests) in omega arith
-          cause (inr p) =
-              let v : has_voted t.order j ≡ true = h.1 in
-              let x = t.order.reading j p.0 in let y = p.1 in let z : ◌≡◌ {A = ℕ} 0 1 = grind (arith, nat_tests) in omega arith
+  -- a commit rolls back those that precede the job, and a roll back those that read from it
+  pub commit_leaves : (u w : OpenTables) (ahead gone r : JobSet) → ((k : ℕ) → member ahead k ≡ precedes t.order k j) → Left t (member gone) w
+      → RolledBack (member ahead) (reads_from t.order) (is_pending t.order) (member gone) → Left w (λ k. eqb k j) u
+      → r ≡ jobs_where (λ k. member gone k && not (eqb k j)) → Leaves m (lost_to_commit m j) j r (held_by u)
+  commit_leaves = leaves (λ i. precedes t.order i j) (λ i q. t.order.ahead i j q)
 
-      is : (k : ℕ) → member lost k ≡ lost_to_commit m j k
-      is k =
-          went k
-          ∙ without_one (goes 16 (λ i. precedes t.order i j) (reads_from t.order) k) (eqb k j)
-          (λ q g. stays (ap (goes 16 (λ i. precedes t.order i j) (reads_from t.order)) (sym (eqb-true k j q)) ∙ g))
+  pub roll_back_leaves : (u w : OpenTables) (readers gone r : JobSet) → ((k : ℕ) → member readers k ≡ reads_from t.order k j) → Left t (member gone) w
+      → RolledBack (member readers) (reads_from t.order) (is_pending t.order) (member gone) → Left w (λ k. eqb k j) u
+      → r ≡ jobs_where (λ k. member gone k && not (eqb k j)) → Leaves m (lost_to_roll_back m j) j r (held_by u)
+  roll_back_leaves = leaves (λ i. reads_from t.order i j) (λ i q. t.order.readers i j q)
 
 -- an access that was noted, where r is the record of the parameter
 module _ (t u : OpenTables) (job : Job) (p : ℕ) where

@@ -110,10 +110,13 @@ impl Tables for OpenTables {
     fn commit(&mut self, job: Job) -> JobSet {
         let lost = self.roll_back_each(self.order.ahead_of(job));
         self.leave(job);
-        lost
+        lost.remove(job)
     }
 
+    // Those that read from the job are rolled back, each with whoever read from it, and then the job leaves.
     fn roll_back(&mut self, job: Job) -> JobSet {
-        self.roll_back_one(job).remove(job)
+        let lost = self.roll_back_each(self.order.readers_of(job));
+        self.leave(job);
+        lost.remove(job)
     }
 }

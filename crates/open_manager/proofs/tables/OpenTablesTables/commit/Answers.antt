@@ -3,4 +3,4 @@ use Rattle.open_manager.proofs.OpenCalls.{commit_leaves}
 use Rattle.open_manager.proofs.tables.OpenTablesTables.commit.Goals as goal
 
 pub returns : goal.returns
-returns c = record { follows_the_rules = λ h. search (rules, commit_leaves) }
+returns c = search (rules, commit_leaves)

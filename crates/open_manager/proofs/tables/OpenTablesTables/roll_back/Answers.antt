@@ -3,4 +3,4 @@ use Rattle.open_manager.proofs.OpenCalls.{roll_back_leaves}
 use Rattle.open_manager.proofs.tables.OpenTablesTables.roll_back.Goals as goal
 
 pub returns : goal.returns
-returns c = record { follows_the_rules = λ h. search (rules, roll_back_leaves) }
+returns c = search (rules, roll_back_leaves)
