@@ -10,7 +10,7 @@ use Rattle.jobs.specs.Sets.{has, bits_where, lowest, how_many, any_below}
 use Rattle.jobs.specs.Jobs.{member, set_of, no_jobs, jobs_where, number_in, after_next}
 use Rattle.jobs.proofs.Sets.{has_or, has_and, has_zero, has_one, has_not, has_without, bits_where_lt, has_bits_where, bits_are, lowest_some, lowest_never, lowest_same, trailing_lowest, trailing_none, how_many_same, how_many_ones, how_many_less, any_same, zero_is_empty}
 
-member_has : (s : JobSet) (k : ℕ) → k < 16 → member s k ≡ has s.bits k
+pub member_has : (s : JobSet) (k : ℕ) → k < 16 → member s k ≡ has s.bits k
 member_has s k l = grind (arith, nat_tests)
 
 -- no number past those of the jobs is a member
@@ -67,7 +67,7 @@ next_none s h = lowest_never (member s) 16 (sym h) (member_past s)
 -- what each operation on bits makes: the members, and the set
 
 pub members_all : (k : ℕ) → member (set_of 65535) k ≡ ltb k 16
-members_all k = let x = has_not 0 k in let y = has_zero k in grind (arith, nat_tests)
+members_all k = let x = has_not 16 0 k in let y = has_zero k in grind (arith, nat_tests)
 
 pub all_is : set_of 65535 ≡ jobs_where (λ k. true)
 all_is = ap set_of (bits_are 16 65535 (λ k. true) (omega arith) (λ k l. let x = members_all k in grind (arith, nat_tests)))
@@ -93,7 +93,7 @@ common_is s t a = set_is _ _ (omega (arith, and_le_l s.bits t.bits)) (members_co
 
 pub members_without : (s t : JobSet) (k : ℕ) → s.bits < 2 ^ 16 → t.bits < 2 ^ 16
     → member (set_of (bit_and s.bits (65535 - t.bits))) k ≡ (member s k && not (member t k))
-members_without s t k a b = let x = has_without s.bits t.bits k a b in grind (arith, nat_tests)
+members_without s t k a b = let x = has_without 16 s.bits t.bits k a b in grind (arith, nat_tests)
 
 pub without_is : (s t : JobSet) → s.bits < 2 ^ 16 → t.bits < 2 ^ 16
     → set_of (bit_and s.bits (65535 - t.bits)) ≡ jobs_where (λ k. member s k && not (member t k))
@@ -108,9 +108,9 @@ count_is s l = how_many_ones 16 s.bits l ∙ sym (how_many_same (member s) (has 
 pub lowest_is : (s : JobSet) (r : Option Job) → s.bits < 2 ^ 16
     → MatchOption r (16 ≤ count_trailing_zeros 16 s.bits) (λ j. j.number ≡ count_trailing_zeros 16 s.bits)
     → number_in r ≡ lowest (member s) 16
-lowest_is s None l h = sym (lowest_same (member s) (has s.bits) 16 (member_has s) ∙ trailing_none s.bits l h)
+lowest_is s None l h = sym (lowest_same (member s) (has s.bits) 16 (member_has s) ∙ trailing_none 16 s.bits h)
 lowest_is s (Some j) l h =
     let low = j.low in
-    ap Some h ∙ sym (lowest_same (member s) (has s.bits) 16 (member_has s) ∙ trailing_lowest s.bits l (omega arith))
+    ap Some h ∙ sym (lowest_same (member s) (has s.bits) 16 (member_has s) ∙ trailing_lowest 16 s.bits (omega arith))
 
 pub ruleset operations = (members_all, all_is, members_one, one_is, members_union, union_is, members_common, common_is, members_without, without_is, empty_is, count_is, lowest_is)

@@ -1,15 +1,14 @@
--- Facts about sets of numbers as bits and as tests, each over the size where it can be.
-use Rattle.std.proofs.Common.{◌≡◌, ℕ, zero, suc, ◌+◌, ◌-◌, ◌*◌, ◌/◌, ◌%◌, ◌^◌, ◌<◌, ◌≤◌, Bool, true, false, not, ◌&&◌, ◌||◌, if◌then◌else◌, eqb, ltb, Some, None, w16, sym, refl, ◌∙◌, pow-suc, arith}
+-- Facts about sets of numbers as bits and as tests, each over the size.
+use Rattle.std.proofs.Common.{◌≡◌, ℕ, zero, suc, ◌+◌, ◌-◌, ◌*◌, ◌/◌, ◌%◌, ◌^◌, ◌<◌, ◌≤◌, Bool, true, false, not, ◌&&◌, ◌||◌, if◌then◌else◌, eqb, ltb, Some, None, sym, refl, ap, ◌∙◌, pow-suc, arith}
 use lib.Bits.{bit_or, bit_and}
-use lib.Count.{ones, ones_step, count_trailing_zeros}
+use lib.Count.{ones, ones_step, count_trailing_zeros, under}
 use Rattle.std.proofs.lemmas.Nat.{pow_pos, or_shifted}
-use Rattle.std.proofs.lemmas.Nat.Bits.{bit_at_lowest, bit_at-suc, bit_at-zero, bit_at-lt, bit_at_and, bit_at_or, bit_at_not, bit_at_above, bit_at-pow_same, bit_at-pow_other, bit_at-trailing_zeros, same_from_bits_below}
-use Rattle.std.proofs.lemmas.Bool.{cases_eq}
+use Rattle.std.proofs.lemmas.Nat.Bits.{bit_at_lowest, bit_at-suc, bit_at-zero, bit_at-lt, bit_at_and, bit_at_or, bit_at_above, bit_at-pow_same, bit_at-pow_other, same_from_bits_below}
 use Rattle.std.proofs.lemmas.Bool.Decides.{nat_tests}
 use Rattle.jobs.specs.Sets.{has, bits_where, lowest, how_many, any_below}
 
 -- the bit above is the bit of the half
-has_suc : (a k : ℕ) → has a (suc k) ≡ has (a / 2) k
+pub has_suc : (a k : ℕ) → has a (suc k) ≡ has (a / 2) k
 has_suc a k = let x = bit_at-suc a k in grind (arith, nat_tests)
 
 pub has_or : (a b k : ℕ) → has (bit_or a b) k ≡ (has a k || has b k)
@@ -19,7 +18,7 @@ pub has_and : (a b k : ℕ) → has (bit_and a b) k ≡ (has a k && has b k)
 has_and a b k = let x = bit_at_and a b k in let y = bit_at-lt a k in let z = bit_at-lt b k in grind (arith, nat_tests)
 
 -- a number below 2 ^ w has no member from w on
-has_past : (w a k : ℕ) → a < 2 ^ w → w ≤ k → has a k ≡ false
+pub has_past : (w a k : ℕ) → a < 2 ^ w → w ≤ k → has a k ≡ false
 has_past w a k l h = let x = bit_at_above a w k l h in grind (arith, nat_tests)
 
 pub has_zero : (k : ℕ) → has 0 k ≡ false
@@ -28,17 +27,25 @@ has_zero k = let x = bit_at-zero k in grind (arith, nat_tests)
 pub has_one : (j k : ℕ) → has (2 ^ j) k ≡ eqb k j
 has_one j k = let same = bit_at-pow_same j in let other = bit_at-pow_other j k in grind (arith, nat_tests)
 
--- all sixteen bits turned round
-pub has_not : (a k : ℕ) → k < 16 → a < 2 ^ 16 → has (65535 - a) k ≡ not (has a k)
-has_not a k h l = let x = bit_at_not w16 a k l h in let y = bit_at-lt a k in grind (arith, nat_tests)
+-- all bits of a width turned round
+pub has_not : (w a k : ℕ) → k < w → a < 2 ^ w → has (2 ^ w - 1 - a) k ≡ not (has a k)
+has_not zero a k h l = absurd (omega arith)
+has_not (suc w) a zero h l =
+    let x = bit_at_lowest a in let y = bit_at_lowest (2 ^ suc w - 1 - a) in
+    let turned : (2 ^ suc w - 1 - a) % 2 ≡ 1 - a % 2 = omega (arith, pow-suc 2 w) in
+    grind (arith, nat_tests)
+has_not (suc w) a (suc k) h l =
+    let half : (2 ^ suc w - 1 - a) / 2 ≡ 2 ^ w - 1 - a / 2 = omega (arith, pow-suc 2 w) in
+    let ih = has_not w (a / 2) k (omega arith) (omega (arith, pow-suc 2 w)) in
+    has_suc (2 ^ suc w - 1 - a) k ∙ ap (λ (n : ℕ). has n k) half ∙ ih ∙ ap not (sym (has_suc a k))
 
 -- what is left of a set without the members of another
-pub has_without : (a b k : ℕ) → a < 2 ^ 16 → b < 2 ^ 16 → has (bit_and a (65535 - b)) k ≡ (has a k && not (has b k))
-has_without a b k la lb =
-    let x = has_and a (65535 - b) k in let y = has_not b k in let z = has_past 16 a k la in grind (arith, nat_tests)
+pub has_without : (w a b k : ℕ) → a < 2 ^ w → b < 2 ^ w → has (bit_and a (2 ^ w - 1 - b)) k ≡ (has a k && not (has b k))
+has_without w a b k la lb =
+    let x = has_and a (2 ^ w - 1 - b) k in let y = has_not w b k in let z = has_past w a k la in grind (arith, nat_tests)
 
 -- two sets with the same members are the same number
-has_ext : (w a b : ℕ) → a < 2 ^ w → b < 2 ^ w → ((k : ℕ) → k < w → has a k ≡ has b k) → a ≡ b
+pub has_ext : (w a b : ℕ) → a < 2 ^ w → b < 2 ^ w → ((k : ℕ) → k < w → has a k ≡ has b k) → a ≡ b
 has_ext w a b la lb e =
     same_from_bits_below w a b la lb
     (λ k l. let x = e k l in let y = bit_at-lt a k in let z = bit_at-lt b k in grind (arith, nat_tests))
@@ -94,7 +101,7 @@ lowest_same f g zero e = refl
 lowest_same f g (suc n) e = let x = lowest_same f g n (λ k l. e k (omega arith)) in let y = e n in grind (arith, nat_tests)
 
 -- the first that passes is the lowest
-first_lowest : (f : ℕ → Bool) (n j : ℕ) → j < n → f j ≡ true → ((k : ℕ) → k < j → f k ≡ false) → lowest f n ≡ Some j
+pub first_lowest : (f : ℕ → Bool) (n j : ℕ) → j < n → f j ≡ true → ((k : ℕ) → k < j → f k ≡ false) → lowest f n ≡ Some j
 unfolding lowest
 first_lowest f zero j l t h = absurd (omega arith)
 first_lowest f (suc n) j l t h =
@@ -102,19 +109,34 @@ first_lowest f (suc n) j l t h =
     let last : n ≤ j → lowest f n ≡ None = λ m. none_lowest f n (λ k q. h k (omega arith)) in
     grind (arith, nat_tests)
 
--- the lowest member by the zeros below it
-pub trailing_lowest : (a : ℕ) → a < 2 ^ 16 → count_trailing_zeros 16 a < 16 → lowest (has a) 16 ≡ Some (count_trailing_zeros 16 a)
+-- the zeros below the lowest member, in w bits
+trailing_low : (w a : ℕ) → ((k : ℕ) → k < count_trailing_zeros w a → has a k ≡ false)
+    × (count_trailing_zeros w a < w → has a (count_trailing_zeros w a) ≡ true)
 unfolding count_trailing_zeros
-trailing_lowest a l h =
-    let some = cases_eq a 0 in
-    let all : a ≡ 0 → count_trailing_zeros 16 a ≡ 16 = λ e. rw e in
-    let low = bit_at-trailing_zeros w16 a (grind (arith, nat_tests)) l in
-    first_lowest (has a) 16 (count_trailing_zeros 16 a) h (grind (arith, nat_tests))
-    (λ k m. let x = low.2 k m in grind (arith, nat_tests))
+trailing_low zero a = (λ k l. absurd (omega arith), λ l. absurd (omega arith))
+trailing_low (suc w) a = go (a % 2) refl (trailing_low w (a / 2))
+  where
+    bottom : has a 0 ≡ eqb (a % 2) 1
+    bottom = let x = bit_at_lowest a in grind (arith, nat_tests)
 
-pub trailing_none : (a : ℕ) → a < 2 ^ 16 → 16 ≤ count_trailing_zeros 16 a → lowest (has a) 16 ≡ None
-trailing_none a l h =
-    none_lowest (has a) 16 (λ k m. let x = bit_at-trailing_zeros w16 a in let y = has_zero k in grind (arith, nat_tests))
+    below : (k t : ℕ) → a % 2 ≡ 0 → ((k : ℕ) → k < t → has (a / 2) k ≡ false) → k < suc t → has a k ≡ false
+    below zero t e h l = let x = bottom in grind (arith, nat_tests)
+    below (suc k) t e h l = has_suc a k ∙ h k (omega arith)
+
+    go : (d : ℕ) → a % 2 ≡ d
+        → ((k : ℕ) → k < count_trailing_zeros w (a / 2) → has (a / 2) k ≡ false) × (count_trailing_zeros w (a / 2) < w → has (a / 2) (count_trailing_zeros w (a / 2)) ≡ true)
+        → ((k : ℕ) → k < under d (count_trailing_zeros w (a / 2)) → has a k ≡ false)
+        × (under d (count_trailing_zeros w (a / 2)) < suc w → has a (under d (count_trailing_zeros w (a / 2))) ≡ true)
+    go zero e ih =
+        (λ k l. below k (count_trailing_zeros w (a / 2)) e ih.0 l, λ l. has_suc a (count_trailing_zeros w (a / 2)) ∙ ih.1 (omega arith))
+    go (suc d) e ih = (λ k l. absurd (omega arith), λ l. let x = bottom in grind (arith, nat_tests))
+
+-- the lowest member by the zeros below it
+pub trailing_lowest : (w a : ℕ) → count_trailing_zeros w a < w → lowest (has a) w ≡ Some (count_trailing_zeros w a)
+trailing_lowest w a l = first_lowest (has a) w (count_trailing_zeros w a) l ((trailing_low w a).1 l) (trailing_low w a).0
+
+pub trailing_none : (w a : ℕ) → w ≤ count_trailing_zeros w a → lowest (has a) w ≡ None
+trailing_none w a l = none_lowest (has a) w (λ k h. (trailing_low w a).0 k (omega arith))
 
 -- counted from the bottom
 how_many_bottom : (f : ℕ → Bool) (n : ℕ) → how_many f (suc n) ≡ (if f 0 then 1 else 0) + how_many (λ k. f (suc k)) n
