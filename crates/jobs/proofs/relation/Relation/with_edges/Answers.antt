@@ -1,4 +1,5 @@
 use Rattle.std.proofs.Common.{◌≡◌, ℕ, if◌then◌else◌, List, ap, ◌∙◌, arith}
+use Rattle.std.proofs.lemmas.Bool.Decides.{nat_tests}
 use Rattle.jobs.specs.declared.set.JobSet.{JobSet}
 use Rattle.jobs.specs.Jobs.{member}
 use Rattle.jobs.specs.Rows.{row_at}
@@ -16,5 +17,7 @@ returns c =
     let to : ℕ = c.args.to.number in
     let before : List JobSet = c.args.self.rows in
     let rows : (i : ℕ) → row_at c.loop-job.rows i ≡ (if member c.args.from i then more (row_at before i) to else row_at before i) = λ i.
-    rw c.into_iter-job-iterator.ensures.into_iter_gives at (adding_all before _ to _ _ (next_none _ c.in-None.ensures.steps.0) c.loop-job.invariant i) in
+    let all = adding_all before _ to _ _ (next_none _ c.in-None.ensures.steps.0) c.loop-job.invariant i in
+    let walked = c.into_iter-job-iterator.ensures.into_iter_gives in
+    grind (arith, nat_tests) in
     record { rows = rows; pairs = λ i k. ap (λ (s : JobSet). member s k) (rows i) ∙ more_pairs (row_at before i) (member c.args.from i) to k c.args.to.low }

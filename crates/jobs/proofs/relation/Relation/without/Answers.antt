@@ -1,4 +1,4 @@
-use Rattle.std.proofs.Common.{ℕ, List, eqb, ap, ◌∙◌, arith}
+use Rattle.std.proofs.Common.{rules, ℕ, List, eqb, ap, ◌∙◌, arith}
 use Rattle.jobs.specs.declared.set.JobSet.{JobSet}
 use Rattle.jobs.specs.Jobs.{member, no_jobs}
 use Rattle.jobs.specs.Rows.{row_at}
@@ -9,7 +9,7 @@ use Rattle.jobs.proofs.relation.Relation.without.Goals as goal
 pub loop-row-preserved : goal.loop-row-preserved
 loop-row-preserved c =
     walked_more no_jobs (Loses c.args.job.number) _ _ _ no_jobs _ (omega (arith, c.loop-row.invariant.0)) c.loop-row.invariant
-    c.remove.ensures.value
+    (search rules)
 
 pub returns : goal.returns
 returns c =
