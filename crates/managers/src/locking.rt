@@ -3,13 +3,13 @@ ghost use Rattle.std.specs.Prelude.{◌≡◌, length};
 mod tables;
 
 pub use crate::calls::{
-    commit_in, parameters_in, read_in, roll_back_in, set_up_in, settled_in, vote_in, write_in,
+    commit_in, parameters_in, read_in, roll_back_in, settled_in, vote_in, write_in,
 };
 use crate::manager::TableManager;
 use crate::memory::Count;
 use jobs::job::Job;
 use jobs::set::JobSet;
-pub use tables::admits_no_conflict;
+pub use tables::{admits_no_conflict, set_up_in};
 
 // Who has a pending access to a parameter. A job that conflicts with one of them is refused, so there is at most one
 // pending write, and nobody else reads what is written.

@@ -10,13 +10,13 @@ mod tables;
 mod writers;
 
 pub use managers::calls::{
-    commit_in, parameters_in, read_in, roll_back_in, set_up_in, settled_in, vote_in, write_in,
+    commit_in, parameters_in, read_in, roll_back_in, settled_in, vote_in, write_in,
 };
 use managers::manager::TableManager;
 use managers::memory::Count;
 use order::Order;
 use records::Records;
-pub use tables::admits_every_conflict;
+pub use tables::{admits_every_conflict, set_up_in};
 
 // The tables of an open manager, which admits every conflicting access, and sorts matters out at the vote and at the commit.
 // A job is pending exactly if it has a pending access to some parameter.

@@ -1,7 +1,10 @@
-ghost use Rattle.std.specs.Prelude.{◌≡◌, ℕ, ◌<◌, ◌≤◌, Err, MatchResult, OnErr, ◌≢◌};
+ghost use Rattle.std.specs.Prelude.{◌≡◌, ℕ, ◌<◌, ◌≤◌, ◌++◌, length, drop, Err, is_ok, IfOk, IfErr, MatchResult, OnErr, OnOk, ◌≢◌};
 ghost use Rattle.rules.specs.declared.fault.ManagerFault.TheVariants.{Conflict};
+ghost use Rattle.rules.specs.Manager.{fresh};
 ghost use Rattle.rules.specs.Calls.{Obeys, read_of, write_of};
-ghost use Rattle.open_manager.specs.Open.{record_in, admits_all, AdmitsEveryConflict, held_by};
+ghost use Rattle.managers.specs.Memory.{can_set_up};
+ghost use Rattle.managers.specs.Tables.{count_of};
+ghost use Rattle.open_manager.specs.Open.{record_in, admits_all, AdmitsEveryConflict, held_by, meaning_of};
 ghost use Rattle.open_manager.specs.Laws.{jobs_write};
 
 mod leaving;
@@ -11,6 +14,7 @@ use crate::order::Order;
 use crate::records::{Record, Records};
 use jobs::job::Job;
 use jobs::set::JobSet;
+use managers::calls;
 use managers::memory::Count;
 use managers::tables::Tables;
 use rules::access::Access;
@@ -21,6 +25,17 @@ use rules::fault::ManagerFault;
 pub fn admits_every_conflict<V>()
     ensures { AdmitsEveryConflict V }
 {}
+
+// Sets an open manager up, as `managers::calls::set_up_in` does a manager of any kind: here the kind need not be named.
+pub fn set_up_in<V: Copy>(values: &mut [V], starting: &[V]) -> Result<OpenTables, ManagerFault>
+    ensures accepted { is_ok result ≡ can_set_up (length starting.now) (length values.old) }
+    ensures fresh { IfOk result (λ t. meaning_of t values.new ≡ fresh starting.now) }
+    ensures count { IfOk result (λ t. (t.count.number ≡ length starting.now) × (count_of (held_by t) ≡ length starting.now)) }
+    ensures memory { OnOk result (values.new ≡ starting.now ++ drop (length starting.now) values.old) }
+    ensures refusal_changes_nothing { IfErr result (λ f. (f ≡ ManagerFault.NoRoom) × (values.new ≡ values.old)) }
+{
+    calls::set_up_in(values, starting)
+}
 
 impl OpenTables {
     // The record of the parameter, which is refused where it is not there.

@@ -1,12 +1,15 @@
-ghost use Rattle.std.specs.Prelude.{◌≡◌, ℕ, ◌<◌, true, is_ok, None, MatchResult, OnErr};
+ghost use Rattle.std.specs.Prelude.{◌≡◌, ℕ, ◌<◌, true, ◌++◌, length, drop, is_ok, IfOk, IfErr, None, MatchResult, OnErr, OnOk};
 ghost use Rattle.jobs.specs.Sets.{lowest};
 ghost use Rattle.jobs.specs.Jobs.{member, number_in};
 ghost use Rattle.rules.specs.declared.access.Access.TheVariants.{Read, Write};
-ghost use Rattle.rules.specs.Manager.{conflict_of};
+ghost use Rattle.rules.specs.Manager.{fresh, conflict_of};
 ghost use Rattle.rules.specs.Calls.{Obeys, read_of, write_of};
-ghost use Rattle.managers.specs.Locking.{no_lock, is_writer, holds, rivals, access_fault, ReaderNoted, WriterNoted, LeftOf, JobLeft, held_by, admits_none, AdmitsNoConflict};
+ghost use Rattle.managers.specs.Memory.{can_set_up};
+ghost use Rattle.managers.specs.Tables.{count_of};
+ghost use Rattle.managers.specs.Locking.{no_lock, is_writer, holds, rivals, access_fault, ReaderNoted, WriterNoted, LeftOf, JobLeft, held_by, meaning_of, admits_none, AdmitsNoConflict};
 ghost use Rattle.managers.specs.LockLaws.{jobs_write};
 
+use crate::calls;
 use crate::locking::{Lock, Locks};
 use crate::memory::Count;
 use crate::tables::Tables;
@@ -20,6 +23,17 @@ use rules::fault::ManagerFault;
 pub fn admits_no_conflict<V>()
     ensures { AdmitsNoConflict V }
 {}
+
+// Sets a locking manager up, as `managers::calls::set_up_in` does a manager of any kind: here the kind need not be named.
+pub fn set_up_in<V: Copy>(values: &mut [V], starting: &[V]) -> Result<Locks, ManagerFault>
+    ensures accepted { is_ok result ≡ can_set_up (length starting.now) (length values.old) }
+    ensures fresh { IfOk result (λ t. meaning_of t values.new ≡ fresh starting.now) }
+    ensures count { IfOk result (λ t. (t.count.number ≡ length starting.now) × (count_of (held_by t) ≡ length starting.now)) }
+    ensures memory { OnOk result (values.new ≡ starting.now ++ drop (length starting.now) values.old) }
+    ensures refusal_changes_nothing { IfErr result (λ f. (f ≡ ManagerFault.NoRoom) × (values.new ≡ values.old)) }
+{
+    calls::set_up_in(values, starting)
+}
 
 impl Lock {
     fn new() -> Lock
