@@ -156,9 +156,8 @@ impl Tables for Locks {
     }
 
     fn is_pending(&self, job: Job) -> bool {
-        self.locks
+        self.locks[..usize::from(self.count.number())]
             .iter()
-            .take(usize::from(self.count.number()))
             .any(|lock| lock.holds(job))
     }
 
