@@ -31,7 +31,7 @@ use Rattle.open_manager.specs.RollBack.{RolledBack}
 use Rattle.open_manager.specs.Open.{record_in, reads_in, writers_in, writes_by, held_by, admits_all, Left}
 use Rattle.open_manager.proofs.Meanings.{read_means, write_means, leave_means}
 use Rattle.open_manager.proofs.Leaving.{left_twice}
-use Rattle.open_manager.proofs.RollingBack.{rolled_goes}
+use Rattle.open_manager.proofs.RollingBack.{rolled_readers, rolled_goes}
 
 -- one job besides those of a set, whether it belongs to the set or not
 besides : (g e : Bool) → (g || e) ≡ ((g && not e) || e)
@@ -71,33 +71,38 @@ module _ (t : OpenTables) (j : ℕ) where
         let there = lt-leb n p inside in
         (access_accepted m n (length-replicate n tt) admits_all j p a x None (λ l. never_stopped p a) (grind (arith, nat_tests))).4.2
 
-  -- some were rolled back, all of whom were pending, and then j left
-  leaves : (first : ℕ → Bool) → ((i : ℕ) → first i ≡ true → is_pending t.order i ≡ true) → (u w : OpenTables) (ahead gone r : JobSet)
-      → ((k : ℕ) → member ahead k ≡ first k) → Left t (member gone) w
-      → RolledBack (member ahead) (reads_from t.order) (is_pending t.order) (member gone) → Left w (λ k. eqb k j) u
-      → r ≡ jobs_where (λ k. member gone k && not (eqb k j)) → Leaves m (λ k. goes 16 first (reads_from t.order) k && not (eqb k j)) j r (held_by u)
-  leaves first start u w ahead gone r is l b left e = record {
-    told = e ∙ ap jobs_where (fun_ext (λ k. ap (λ (x : Bool). x && not (eqb k j)) (went k)));
-    after = leave_means t u (λ k. member gone k || eqb k j) (left_twice t w u (member gone) (λ k. eqb k j) _ (λ k. refl) l left)
-        ∙ ap (λ (f : ℕ → Bool). leave f m) (fun_ext (λ k. ap (λ (x : Bool). x || eqb k j) (went k) ∙ besides (goes 16 first (reads_from t.order) k) (eqb k j)));
+  -- those of `gone`, which besides j are just those of `others`, and j left
+  gone_leaves : (gone others : ℕ → Bool) (u : OpenTables) (r : JobSet) → ((k : ℕ) → (gone k && not (eqb k j)) ≡ (others k && not (eqb k j)))
+      → Left t (λ k. gone k || eqb k j) u → r ≡ jobs_where (λ k. gone k && not (eqb k j)) → Leaves m (λ k. others k && not (eqb k j)) j r (held_by u)
+  gone_leaves gone others u r same left e = record {
+    told = e ∙ ap jobs_where (fun_ext same);
+    after = leave_means t u (λ k. gone k || eqb k j) left
+        ∙ ap (λ (f : ℕ → Bool). leave f m) (fun_ext (λ k. besides (gone k) (eqb k j) ∙ ap (λ (x : Bool). x || eqb k j) (same k)));
   }
-    where
-      went : (k : ℕ) → member gone k ≡ goes 16 first (reads_from t.order) k
-      went k =
-          rolled_goes (reads_from t.order) (is_pending t.order) (member ahead) (member gone) (member_low t.order.pending)
-          (λ i q. start i (sym (is i) ∙ q)) t.order.readers b k
-          ∙ ap (λ (f : ℕ → Bool). goes 16 f (reads_from t.order) k) (fun_ext is)
 
-  -- a commit rolls back those that precede the job, and a roll back those that read from it
+  -- a commit rolls back those that precede the job, all of whom are pending, and then the job leaves
   pub commit_leaves : (u w : OpenTables) (ahead gone r : JobSet) → ((k : ℕ) → member ahead k ≡ precedes t.order k j) → Left t (member gone) w
       → RolledBack (member ahead) (reads_from t.order) (is_pending t.order) (member gone) → Left w (λ k. eqb k j) u
       → r ≡ jobs_where (λ k. member gone k && not (eqb k j)) → Leaves m (lost_to_commit m j) j r (held_by u)
-  commit_leaves = leaves (λ i. precedes t.order i j) (λ i q. t.order.ahead i j q)
+  commit_leaves u w ahead gone r is l b left =
+      gone_leaves (member gone) (goes 16 (λ i. precedes t.order i j) (reads_from t.order)) u r
+      (λ k. ap (λ (x : Bool). x && not (eqb k j)) (went k)) (left_twice t w u (member gone) (λ k. eqb k j) _ (λ k. refl) l left)
+    where
+      went : (k : ℕ) → member gone k ≡ goes 16 (λ i. precedes t.order i j) (reads_from t.order) k
+      went k =
+          rolled_goes (reads_from t.order) (is_pending t.order) (member ahead) (member gone) (member_low t.order.pending)
+          (λ i q. t.order.ahead i j (sym (is i) ∙ q)) t.order.readers b k
+          ∙ ap (λ (f : ℕ → Bool). goes 16 f (reads_from t.order) k) (fun_ext is)
 
-  pub roll_back_leaves : (u w : OpenTables) (readers gone r : JobSet) → ((k : ℕ) → member readers k ≡ reads_from t.order k j) → Left t (member gone) w
-      → RolledBack (member readers) (reads_from t.order) (is_pending t.order) (member gone) → Left w (λ k. eqb k j) u
+  -- in a roll back the job leaves, and then those that read from it are rolled back
+  pub roll_back_leaves : (u w : OpenTables) (readers gone r : JobSet) → ((k : ℕ) → member readers k ≡ reads_from t.order k j)
+      → Left t (λ k. eqb k j) w → Left w (member gone) u → RolledBack (member readers) (reads_from w.order) (is_pending w.order) (member gone)
       → r ≡ jobs_where (λ k. member gone k && not (eqb k j)) → Leaves m (lost_to_roll_back m j) j r (held_by u)
-  roll_back_leaves = leaves (λ i. reads_from t.order i j) (λ i q. t.order.readers i j q)
+  roll_back_leaves u w readers gone r is first l b =
+      gone_leaves (member gone) (goes 16 (λ i. reads_from t.order i j) (reads_from t.order)) u r
+      (rolled_readers (reads_from t.order) (is_pending t.order) j (reads_from w.order) (is_pending w.order) first.reads_from first.pending
+      (member readers) (member gone) (member_low t.order.pending) t.order.readers is b)
+      (left_twice t w u (λ k. eqb k j) (member gone) _ (λ k. let x : Bool = member gone k in grind (arith, nat_tests)) first l)
 
 -- an access that was noted, where r is the record of the parameter
 module _ (t u : OpenTables) (job : Job) (p : ℕ) where

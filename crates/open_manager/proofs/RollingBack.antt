@@ -95,6 +95,62 @@ module _ (reads : ℕ → ℕ → Bool) (pending : ℕ → Bool) where
             (λ k i f. let x = left k i in grind (arith, nat_tests)) (r.only k h)
         went k (inr h) = let e = eqb-true k j h in at_first (omega arith) h
 
+    -- so that besides the job exactly those went that go with its readers
+    pub rolled_readers : (readers gone : ℕ → Bool) → ((k : ℕ) → pending k ≡ true → k < 16)
+        → ((k i : ℕ) → reads k i ≡ true → pending k ≡ true) → ((k : ℕ) → readers k ≡ reads k j) → RolledBack readers reads' pending' gone
+        → (k : ℕ) → (gone k && not (eqb k j)) ≡ (goes 16 (λ i. reads i j) reads k && not (eqb k j))
+    rolled_readers readers gone jobs known who r k = same (cases_eq k j) (cases_Bool (gone k)) (cases_Bool (goes 16 (λ i. reads i j) reads k))
+      where
+        near : (k : ℕ) → (k ≡ j → ⊥) → reads k j ≡ true → gone k ≡ true
+        near k n h =
+            let f = ne_eqb k j n in
+            let x = who k in
+            let y = stay k in
+            let z = known k j h in
+            let u = r.all k in
+            grind (arith, nat_tests)
+
+        back : {k : ℕ} → Goes 16 (λ i. reads i j) reads k → (k ≡ j) ⊎ (gone k ≡ true)
+        back {k} (at_first l h) = go (cases_eq k j)
+          where
+            go : (k ≡ j) ⊎ (k ≡ j → ⊥) → (k ≡ j) ⊎ (gone k ≡ true)
+            go (inl e) = inl e
+            go (inr n) = inr (near k n h)
+        back {k} (in_turn {i = i} l g h) = go (cases_eq k j) (back g)
+          where
+            on : (k ≡ j → ⊥) → (i ≡ j) ⊎ (i ≡ j → ⊥) → gone i ≡ true → gone k ≡ true
+            on n (inl e) m = near k n (ap (reads k) (sym e) ∙ h)
+            on n (inr o) m = let f = ne_eqb k j n in let f' = ne_eqb i j o in let x = left k i in let u = r.closed k i m in grind (arith, nat_tests)
+
+            go : (k ≡ j) ⊎ (k ≡ j → ⊥) → (i ≡ j) ⊎ (gone i ≡ true) → (k ≡ j) ⊎ (gone k ≡ true)
+            go (inl e) b = inl e
+            go (inr n) (inl e) = inr (near k n (ap (reads k) (sym e) ∙ h))
+            go (inr n) (inr m) = inr (on n (cases_eq i j) m)
+
+        onward : {k : ℕ} → Goes 16 readers reads' k → Goes 16 (λ i. reads i j) reads k
+        onward g =
+            goes_more 16 readers (λ i. reads i j) reads' reads (λ i l f. at_first l (sym (who i) ∙ f))
+            (λ k i f. let x = left k i in grind (arith, nat_tests)) g
+
+        low : goes 16 (λ i. reads i j) reads k ≡ true → k < 16
+        low h = cause (gone_cause 16 (λ i. reads i j) reads 16 k h)
+          where
+            cause : (reads k j ≡ true) ⊎ ((i : ℕ) × (reads k i ≡ true)) → k < 16
+            cause (inl f) = jobs k (known k j f)
+            cause (inr x) = jobs k (known k x.0 x.1)
+
+        same : (k ≡ j) ⊎ (k ≡ j → ⊥) → (gone k ≡ true) ⊎ (gone k ≡ false)
+            → (goes 16 (λ i. reads i j) reads k ≡ true) ⊎ (goes 16 (λ i. reads i j) reads k ≡ false)
+            → (gone k && not (eqb k j)) ≡ (goes 16 (λ i. reads i j) reads k && not (eqb k j))
+        same (inl e) a b = let f = eq-eqb k j e in grind (arith, nat_tests)
+        same (inr n) (inl a) b = let x = (goes_gone 16 (λ i. reads i j) reads (onward (r.only k a))).1 in grind (arith, nat_tests)
+        same (inr n) (inr a) (inr b) = grind (arith, nat_tests)
+        same (inr n) (inr a) (inl b) = missed (back (gone_only 16 (λ i. reads i j) reads k (low b) b))
+          where
+            missed : (k ≡ j) ⊎ (gone k ≡ true) → (gone k && not (eqb k j)) ≡ (goes 16 (λ i. reads i j) reads k && not (eqb k j))
+            missed (inl e) = absurd (n e)
+            missed (inr g) = grind (arith, nat_tests)
+
   -- those that went are exactly those that go
   pub rolled_goes : (first gone : ℕ → Bool) → ((k : ℕ) → pending k ≡ true → k < 16) → ((k : ℕ) → first k ≡ true → pending k ≡ true)
       → ((k i : ℕ) → reads k i ≡ true → pending k ≡ true) → RolledBack first reads pending gone

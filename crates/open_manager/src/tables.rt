@@ -128,10 +128,10 @@ impl Tables for OpenTables {
         lost.remove(job)
     }
 
-    // Those that read from the job are rolled back, each with whoever read from it, and then the job leaves.
+    // The job leaves, and then those that read from it are rolled back, each with whoever read from it.
     fn roll_back(&mut self, job: Job) -> JobSet {
-        let lost = self.roll_back_each(self.order.readers_of(job));
+        let readers = self.order.readers_of(job);
         self.leave(job);
-        lost.remove(job)
+        self.roll_back_each(readers).remove(job)
     }
 }
