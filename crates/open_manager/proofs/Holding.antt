@@ -6,28 +6,20 @@ use Rattle.jobs.specs.declared.set.JobSet.{JobSet}
 use Rattle.jobs.specs.Jobs.{member}
 use Rattle.jobs.proofs.Sets.{any_from, any_none, any_more, any_and}
 use Rattle.jobs.proofs.Jobs.{member_none}
-use Rattle.rules.specs.declared.access.Access.{Access}
-use Rattle.rules.specs.declared.access.Access.TheVariants.{Read, Write}
 use Rattle.open_manager.specs.declared.OpenTables.{OpenTables}
 use Rattle.open_manager.specs.declared.records.Record.{Record}
 use Rattle.open_manager.specs.Lists.{among}
 use Rattle.open_manager.specs.Writers.{listed}
-use Rattle.open_manager.specs.Records.{record_at, holds, holds_any, rivals, Unused, ReaderNoted, WriterNoted, JobLeft}
+use Rattle.open_manager.specs.Records.{record_at, holds, holds_any, Unused, ReaderNoted, WriterNoted, JobLeft}
 use Rattle.open_manager.specs.Order.{is_pending}
 use Rattle.open_manager.specs.Open.{record_in}
 use Rattle.open_manager.proofs.Lists.{among_leaving}
 
-rivals_hold : (e : Record) (j : ℕ) (a : Access) (k : ℕ) → rivals e j a k ≡ true → holds e k ≡ true
-rivals_hold e j Read k h = grind (arith, nat_tests)
-rivals_hold e j Write k h = grind (arith, nat_tests)
-
--- whoever conflicts with an access is pending
-pub rivals_pending : (t : OpenTables) (p j : ℕ) (a : Access) (e : Record) (s : JobSet) (k : ℕ) → ((k : ℕ) → member s k ≡ rivals e j a k) → member s k ≡ true
-    → e ≡ record_in t p → p < t.count.number → is_pending t.order k ≡ true
-rivals_pending t p j a e s k m h is l =
-    t.exact k
-    ∙ any_from (λ q. holds (record_in t q) k) t.count.number p l
-    (ap (λ (x : Record). holds x k) (sym is) ∙ rivals_hold e j a k (sym (m k) ∙ h))
+-- whoever has a pending access to a parameter is pending
+pub holder_pending : (t : OpenTables) (p : ℕ) (e : Record) (k : ℕ) → e ≡ record_in t p → p < t.count.number → holds e k ≡ true
+    → is_pending t.order k ≡ true
+holder_pending t p e k is l h =
+    t.exact k ∙ any_from (λ q. holds (record_in t q) k) t.count.number p l (ap (λ (x : Record). holds x k) (sym is) ∙ h)
 
 module _ (before after : List Record) (n p j : ℕ) (l : p < n) where
   -- j has an access more, to parameter p

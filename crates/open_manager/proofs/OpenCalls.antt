@@ -22,6 +22,7 @@ use Rattle.managers.specs.Tables.{Held, Leaves}
 use Rattle.managers.proofs.Faults.{exits}
 use Rattle.managers.proofs.Refusals.{access_refused, access_accepted}
 use Rattle.open_manager.specs.declared.OpenTables.{OpenTables}
+use Rattle.open_manager.specs.declared.order.Order.{Order}
 use Rattle.open_manager.specs.declared.records.Record.{Record}
 use Rattle.open_manager.specs.Order.{precedes, reads_from, is_pending, has_voted, WithAccess}
 use Rattle.open_manager.specs.Lists.{last_listed}
@@ -44,6 +45,17 @@ module _ (t : OpenTables) (j : ℕ) where
   abbrev n : ℕ
   n = t.count.number
 
+  -- what the tables would hold with that order
+  abbrev with_order : Order → Held
+  with_order o = record {
+    settled = replicate n tt;
+    writes = λ p. writes_by (writers_in t p);
+    readers = reads_in t;
+    precedes = precedes o;
+    reads_from = reads_from o;
+    voted = has_voted o;
+  }
+
   -- no access is stopped by a conflict
   never_stopped : (p : ℕ) (a : Access) → stops admits_all m j p a ≡ None
   never_stopped p a = go (conflict_of m j p a)
@@ -60,10 +72,12 @@ module _ (t : OpenTables) (j : ℕ) where
         let there = lt-leb n p inside in
         access_refused m n (length-replicate n tt) admits_all j p a x None (λ l. never_stopped p a) Voted (grind (arith, nat_tests))
 
-    -- so a call that ends with that refusal obeys the rule
-    pub late : {r : Result A ManagerFault} {f : ManagerFault} → IsErrAnd r (λ e. e ≡ f) → f ≡ Voted → has_voted t.order j ≡ true → p < n
-        → Obeys (access_of admits_all m j p a x) r m
-    late is why voted inside = exits _ _ (rw (sym why) is) (too_late inside voted)
+    -- so a call that ends with that refusal, and with the order as it was, obeys the rule
+    pub late : {r : Result A ManagerFault} {f : ManagerFault} {o : Order} → IsErrAnd r (λ e. e ≡ f) → o ≡ t.order → f ≡ Voted
+        → has_voted t.order j ≡ true → p < n → Obeys (access_of admits_all m j p a x) r (with_order o)
+    late {r = r} is same why voted inside =
+        subst (λ (o : Order). Obeys (access_of admits_all m j p a x) r (with_order o)) (sym same)
+        (exits _ _ (rw (sym why) is) (too_late inside voted))
 
     pub admitted : p < n → has_voted t.order j ≡ false → access_of admits_all m j p a x ≡ x tt
     admitted inside unvoted =

@@ -98,7 +98,7 @@ impl Tables for OpenTables {
         let record = self.found(parameter)?;
         let writing = record.conflicts(job, Access::Read);
         let source = record.last_writer();
-        self.order = self.order.with_access(job, writing, source)?;
+        self.order.add_access(job, writing, source)?;
         self.records.note_reader(parameter, job);
         Ok(())
     }
@@ -111,14 +111,13 @@ impl Tables for OpenTables {
         ensures admits_every_conflict { (k : ℕ) → result ≢ Err (Conflict k) }
     {
         let accessing = self.found(parameter)?.conflicts(job, Access::Write);
-        self.order = self.order.with_access(job, accessing, None)?;
+        self.order.add_access(job, accessing, None)?;
         self.records.note_writer(parameter, job);
         Ok(())
     }
 
     fn vote(&mut self, job: Job) -> Result<(), ManagerFault> {
-        self.order = self.order.with_vote(job)?;
-        Ok(())
+        self.order.add_vote(job)
     }
 
     // Those that precede the job are rolled back, each with whoever read from it, and then the job leaves.

@@ -1,4 +1,5 @@
-// The changes of the order between jobs. Each takes it by value and gives the new one back.
+// The changes of the order between jobs. An access and a vote change it in place, since as the value of a `Result` it would be
+// copied twice. A leave takes it by value and gives the new one back.
 
 ghost use Rattle.std.specs.Prelude.{◌≡◌, ℕ, true, false, not, ◌&&◌, ◌||◌, None, Some, ◌==◌, MatchResult};
 ghost use Rattle.jobs.specs.Sets.{names};
@@ -74,27 +75,28 @@ impl Order {
         self.reads_from.predecessors(job)
     }
 
-    // With an access of the job, which those of `earlier` precede from now on, and which reads from `source` if that is
-    // another job. Refused where the job has voted.
-    pub(crate) fn with_access(
-        self,
+    // An access of the job, which those of `earlier` precede from now on, and which reads from `source` if that is another job.
+    // Refused where the job has voted.
+    pub(crate) fn add_access(
+        &mut self,
         job: Job,
         earlier: JobSet,
         source: Option<Job>,
-    ) -> Result<Order, ManagerFault>
+    ) -> Result<(), ManagerFault>
         requires others { member earlier job.number ≡ false }
-        requires pending { (k : ℕ) → member earlier k ≡ true → is_pending self k ≡ true }
-        ensures { MatchResult result (λ r. (has_voted self job.number ≡ false) × WithAccess self job.number earlier (number_in source) r) (λ f. (has_voted self job.number ≡ true) × (f ≡ ManagerFault.Voted)) }
+        requires pending { (k : ℕ) → member earlier k ≡ true → is_pending self.old k ≡ true }
+        ensures { MatchResult result (λ _. (has_voted self.old job.number ≡ false) × WithAccess self.old job.number earlier (number_in source) self.new) (λ f. (has_voted self.old job.number ≡ true) × (f ≡ ManagerFault.Voted) × (self.new ≡ self.old)) }
     {
         if self.has_voted(job) {
             return Err(ManagerFault::Voted);
         }
-        Ok(Order {
+        *self = Order {
             precedes: self.precedes.with_edges(earlier, job),
             reads_from: self.reading_from(job, source),
             pending: self.pending.insert(job),
             voted: self.voted,
-        })
+        };
+        Ok(())
     }
 
     // The relation with a read by the job from the source, unless that is the job itself or nobody.
@@ -108,9 +110,9 @@ impl Order {
             })
     }
 
-    // With the vote for the job. Refused where it read from a pending job, or stands in an order with a voted one.
-    pub(crate) fn with_vote(self, job: Job) -> Result<Order, ManagerFault>
-        ensures { MatchResult result (λ r. (obstacle self job.number ≡ None) × WithVote self job.number r) (λ f. obstacle self job.number ≡ Some f) }
+    // The vote for the job. Refused where it read from a pending job, or stands in an order with a voted one.
+    pub(crate) fn add_vote(&mut self, job: Job) -> Result<(), ManagerFault>
+        ensures { MatchResult result (λ _. (obstacle self.old job.number ≡ None) × WithVote self.old job.number self.new) (λ f. (obstacle self.old job.number ≡ Some f) × (self.new ≡ self.old)) }
     {
         // each is taken apart plainly: somebody in the way is a refusal, and nobody none
         if let Some(source) = self.source(job) {
@@ -119,12 +121,8 @@ impl Order {
         if let Some(rival) = self.rival(job) {
             return Err(ManagerFault::Ordered(rival.number()));
         }
-        Ok(Order {
-            precedes: self.precedes,
-            reads_from: self.reads_from,
-            pending: self.pending,
-            voted: self.voted.insert(job),
-        })
+        self.voted = self.voted.insert(job);
+        Ok(())
     }
 
     // Without the job.
