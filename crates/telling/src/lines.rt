@@ -1,10 +1,12 @@
 // A line for each call of a manager, with its answer.
 
+ghost use Rattle.std.specs.Prelude.{◌≡◌, IfSome};
 ghost use Rattle.telling.specs.Lines.{Tells, call_words, line};
 
 use crate::answers::Told;
+use arrayvec::ArrayString;
 use rules::fault::ManagerFault;
-use std::fmt::Display;
+use std::fmt::{Display, Write as _};
 use std::io::Write;
 use std::{fmt, io};
 
@@ -38,7 +40,22 @@ impl<V: Display> Display for Call<V> {
     }
 }
 
-// Tells a call and what it came to.
+// A line of so many bytes or fewer is short.
+const SHORT: usize = 128;
+
+// The line of a call and what it came to, if it is short.
+fn short_line<V: Copy + Display, A: Copy + Display>(
+    call: Call<V>,
+    answer: Result<A, ManagerFault>,
+) -> Option<ArrayString<SHORT>>
+    ensures { IfSome result (λ text. IfSome (line V.output call A.output answer) (λ words. text.bytes ≡ words)) }
+{
+    let mut text = ArrayString::new();
+    writeln!(text, "{call}: {}", Told(answer)).ok()?;
+    Some(text)
+}
+
+// Tells a call and what it came to. A short line is handed to the writer whole, and so goes out at once.
 pub fn tell<V: Copy + Display, A: Copy + Display, W: Write>(
     out: &mut W,
     call: Call<V>,
@@ -46,5 +63,8 @@ pub fn tell<V: Copy + Display, A: Copy + Display, W: Write>(
 ) -> io::Result<()>
     ensures { Tells result (line V.output call A.output answer) (W.contents out.old) (W.contents out.new) }
 {
-    writeln!(out, "{call}: {}", Told(answer))
+    match short_line(call, answer) {
+        Some(text) => out.write_all(text.as_str().as_bytes()),
+        None => writeln!(out, "{call}: {}", Told(answer)),
+    }
 }
